@@ -16,6 +16,8 @@ pub use copied::Copied;
 pub use kind::IntKind;
 pub use memory::Memory;
 pub use place::{Name, Span};
-pub use script::{AreaCells, End, EntryCall, Event, Export, Outcome, Piece, Plain, Reason, Reply, Script};
+pub use script::{
+    AreaCells, End, EntryCall, Event, Export, Outcome, Piece, Plain, Reason, Reply, Script,
+};
 pub use seq::Seq;
 pub use word::Word;

@@ -37,6 +37,10 @@ least kind = least_of (width kind) (is_signed kind)
 abbrev pub greatest : IntKind → ℤ
 greatest kind = greatest_of (width kind) (is_signed kind)
 
+-- the number is in the range of so many bits
+abbrev pub in_range_of : ℕ → Bool → ℤ → Bool
+in_range_of bits signed v = int_le (least_of bits signed) v && int_le v (greatest_of bits signed)
+
 -- the number is in the kind's range
 abbrev pub in_range : IntKind → ℤ → Bool
-in_range kind v = int_le (least kind) v && int_le v (greatest kind)
+in_range kind v = in_range_of (width kind) (is_signed kind) v

@@ -1,0 +1,4 @@
+pub mod Columns
+pub mod Digits
+pub mod Prefixes
+pub mod Tables

@@ -1,0 +1,131 @@
+ghost use Rattle.std.specs.Prelude.{◌≡◌, ◌+◌, ◌<◌, ◌≤◌, ◌^◌, length, Option, Some, IfOk};
+ghost use Rattle.iv_base.specs.Counts.{capped};
+ghost use Rattle.iv_base.specs.MemStores.{state, after, Answers};
+ghost use Rattle.iv_base.specs.Stores.{file_of, Gives, HasLoadCause};
+ghost use Rattle.iv_base.specs.Tables.{map_of};
+
+use crate::files::Files;
+use crate::memory::Memory;
+use crate::seq::Seq;
+use crate::store::{File, LoadFault, Store};
+use crate::word::Word;
+use std::alloc::Global;
+
+/// Tells what it holds, and fails where it is told to and on names that it lacks.
+#[derive(Debug, Drop)]
+pub struct MemStore {
+    files: Files,
+    failing: Seq<u64>,
+    faults: u64,
+    loads: u64,
+}
+
+impl MemStore {
+    /// A store of the files, of two of one name the first. The calls of `load` are numbered from 0, and those in
+    /// `failing` fail.
+    pub fn new(alloc: Global, files: Seq<File>, failing: Seq<u64>) -> Result<MemStore, Memory>
+        ensures holds { IfOk result (λ s. ⟦<MemStore as Store>⟧.holds s ≡ Some (file_of files)) }
+        ensures failing { IfOk result (λ s. s.failing ≡ failing) }
+        ensures faults { IfOk result (λ s. ⟦<MemStore as Store>⟧.faults s ≡ 0) }
+        ensures loads { IfOk result (λ s. ⟦<MemStore as Store>⟧.loads s ≡ 0) }
+    {
+        Ok(MemStore {
+            files: Files::new(alloc, files)?,
+            failing,
+            faults: 0,
+            loads: 0,
+        })
+    }
+}
+
+impl Store for MemStore {
+    ghost faults = { λ s. s.faults };
+
+    ghost holds = { λ s. Some (map_of s.files) };
+
+    ghost loads = { λ s. s.loads };
+
+    fn load(&mut self, alloc: Global, name: &Word, most: u64) -> Result<Word, LoadFault>
+        requires { most < 2 ^ 32 }
+        ensures given { IfOk result (λ w. Gives (Some (map_of self.old.files)) name.now most w) }
+        ensures bounded { IfOk result (λ w. length w ≤ most + 1) }
+        ensures holds { Some (map_of self.new.files) ≡ Some (map_of self.old.files) }
+        ensures loads { self.new.loads ≡ capped (self.old.loads + 1) }
+        ensures cause { HasLoadCause self.old.faults self.new.faults result }
+        ensures after { state self.new ≡ after (state self.old) name.now }
+        ensures answers { Answers (state self.old) name.now most result }
+    {
+        let call = self.loads;
+        self.loads = self.loads.saturating_add(1);
+        if self.failing.as_slice().contains(&call) {
+            self.faults = self.faults.saturating_add(1);
+            return Err(LoadFault::Fault);
+        }
+        match self.files.front(alloc, name, most) {
+            Ok(Some(front)) => Ok(front),
+            Ok(None) => {
+                self.faults = self.faults.saturating_add(1);
+                Err(LoadFault::Fault)
+            }
+            Err(Memory) => Err(LoadFault::Memory),
+        }
+    }
+}
+
+#[cfg(test)]
+mod tests {
+    use super::*;
+    use crate::sure_store::SureStore;
+
+    fn word(alloc: Global, text: &[u8]) -> Result<Word, Memory> {
+        let mut word = Word::new(alloc);
+        word.extend_from_slice(text)?;
+        Ok(word)
+    }
+
+    fn files(alloc: Global) -> Result<Seq<File>, Memory> {
+        let mut files = Seq::new(alloc);
+        for (name, bytes) in [("a", "first"), ("b", "other"), ("a", "last")] {
+            files.push(File {
+                name: word(alloc, name.as_bytes())?,
+                bytes: word(alloc, bytes.as_bytes())?,
+            })?;
+        }
+        Ok(files)
+    }
+
+    #[test]
+    fn gives_the_first_file_of_a_name(rt: HostRuntime) -> Result<(), Memory> {
+        let alloc = rt.alloc();
+        let mut failing = Seq::new(alloc);
+        failing.push(1)?;
+        let mut store = MemStore::new(alloc, files(alloc)?, failing)?;
+        let calls = [
+            ("a", 9, Ok("first")),
+            ("a", 9, Err(LoadFault::Fault)),
+            ("b", 3, Ok("othe")),
+            ("b", 4, Ok("other")),
+            ("c", 9, Err(LoadFault::Fault)),
+        ];
+        for (name, most, answer) in calls {
+            let loaded = store.load(alloc, &word(alloc, name.as_bytes())?, most);
+            match answer {
+                Ok(text) => assert_eq!(rt; loaded, Ok(word(alloc, text.as_bytes())?)),
+                Err(fault) => assert_eq!(rt; loaded, Err(fault)),
+            }
+        }
+        assert_eq!(rt; (store.loads, store.faults), (5, 2));
+        Ok(())
+    }
+
+    #[test]
+    fn gives_the_empty_text_for_an_absent_name(rt: HostRuntime) -> Result<(), Memory> {
+        let alloc = rt.alloc();
+        let mut store = SureStore::new(alloc, files(alloc)?)?;
+        for (name, text) in [("a", "first"), ("c", "")] {
+            let loaded = store.load(alloc, &word(alloc, name.as_bytes())?, 9);
+            assert_eq!(rt; loaded, Ok(word(alloc, text.as_bytes())?));
+        }
+        Ok(())
+    }
+}

@@ -1,0 +1,14 @@
+pub mod Prefixes
+pub mod Laws
+pub mod ControlLaws
+pub mod RunLaws
+pub mod Ends
+pub mod Equations
+pub mod Leading
+pub mod Following
+pub mod ControlFollows
+pub mod ImportFollows
+pub mod Both
+pub mod RunFollows
+pub mod Keeping
+pub mod Safety

@@ -1,0 +1,10 @@
+pub mod Steps
+pub mod Control
+pub mod Imports
+pub mod Runs
+pub mod Lawful
+pub mod Outcomes
+pub mod Safe
+pub mod Follows
+pub mod Bodies
+pub mod Refines

@@ -1,0 +1,4 @@
+pub mod Wide
+pub mod Division
+pub mod Unsigned
+pub mod Answers

@@ -1,0 +1,10 @@
+pub mod Runs
+pub mod Tables
+pub mod Numbers
+pub mod Comments
+pub mod Fronts
+pub mod Classes
+pub mod Longest
+pub mod Readings
+pub mod Cutting
+pub mod Order

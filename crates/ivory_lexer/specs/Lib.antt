@@ -1,0 +1,6 @@
+pub mod Words
+pub mod Table
+pub mod Texts
+pub mod Answers
+pub mod Scanning
+pub mod Tokens

@@ -1,0 +1,16 @@
+use Rattle.std.proofs.Common.{Err, ap, ◌∙◌, arith}
+use Rattle.std.proofs.lemmas.Result.{err_from_is_err_and}
+use Rattle.ivory_parser.specs.Stands.{ProcStands}
+use Rattle.ivory_parser.proofs.Lists.{each_taken, not_each}
+use Rattle.ivory_parser.proofs.Refusals.{refused_on}
+use Rattle.ivory_parser.proofs.resolve.first_procs.Goals as goal
+
+pub returns-in_err-first_proc-clause-refused : goal.returns-in_err-first_proc-clause-refused
+returns-in_err-first_proc-clause-refused c =
+    let p = err_from_is_err_and c.from_residual.result c.from_residual.ensures.1 in
+    refused_on c.from_residual.result c.in_err-first_proc.field-0.0 (p.1 ∙ ap Err p.2) c.in_err-first_proc.ensures.refused
+    (not_each (ProcStands c.args.imports.now) _ _ c.proc-item.result (omega arith) c.proc-item.is)
+
+pub loop-proc-preserved : goal.loop-proc-preserved
+loop-proc-preserved c =
+    each_taken (ProcStands c.args.imports.now) _ _ _ _ c.proc-item.result c.in_ok-first_proc.field-0 c.loop-proc.invariant (omega arith) c.proc-item.is c.in_ok-first_proc.ensures.ok c.in_ok-push.ensures.ok

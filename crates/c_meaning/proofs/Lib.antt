@@ -1,0 +1,4 @@
+pub mod View
+pub mod Lawful
+pub mod Conversions
+pub mod Names

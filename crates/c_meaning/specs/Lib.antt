@@ -1,0 +1,13 @@
+pub mod Syntax
+pub mod View
+pub mod Names
+pub mod Values
+pub mod State
+pub mod Expressions
+pub mod Calls
+pub mod Statements
+pub mod Runs
+pub mod Exports
+pub mod Laws
+pub mod ValueLaws
+pub mod Examples

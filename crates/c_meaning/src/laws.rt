@@ -1,0 +1,70 @@
+ghost use Rattle.c_meaning.specs.Laws.{RunLaws};
+ghost use Rattle.c_meaning.specs.ValueLaws.{HeldNumbersStay, ConvertedNumbersAreHeld, ConversionExamples, ConstantExamples};
+ghost use Rattle.c_meaning.specs.Examples.{EmptyMain, EmptyMainNeedsAStep, NoCalls, HiddenMain, LedOnce, LedNeedsAStep, LedTwice, LedWraps, LedTruth, LedSigned, LedTooGreat, LedTooGreatLater, Replied, NotReplied, BadlyReplied, Stops, CallsEarlier, CallsEarlierInSteps, CallsItself, EndlessLoop, EndlessLed, LoopLeft, LoopLeftInSteps, Returns, Blocks, Exported};
+
+/// The outcomes of a run of C: one for each number of steps, whose events only grow, and whose end stays.
+pub fn run_laws()
+    ensures { RunLaws }
+{}
+
+/// A conversion keeps a number that the type holds, and gives numbers that it holds.
+pub fn conversion_laws()
+    ensures stay { HeldNumbersStay }
+    ensures held { ConvertedNumbersAreHeld }
+    ensures examples { ConversionExamples }
+{}
+
+/// Which types constants have.
+pub fn constant_examples()
+    ensures { ConstantExamples }
+{}
+
+/// What an entry call comes to, and for how many steps.
+pub fn entry_examples()
+    ensures done { EmptyMain }
+    ensures going { EmptyMainNeedsAStep }
+    ensures none { NoCalls }
+    ensures hidden { HiddenMain }
+{}
+
+/// What the outside sees of the call of an `extern`, and how its arguments are converted.
+pub fn extern_examples()
+    ensures once { LedOnce }
+    ensures step { LedNeedsAStep }
+    ensures twice { LedTwice }
+    ensures unsigned { LedWraps }
+    ensures truth { LedTruth }
+    ensures signed { LedSigned }
+    ensures too_great { LedTooGreat }
+    ensures later { LedTooGreatLater }
+{}
+
+/// What an `extern` with a result does with the replies.
+pub fn reply_examples()
+    ensures fits { Replied }
+    ensures none { NotReplied }
+    ensures bad { BadlyReplied }
+{}
+
+/// What other calls come to.
+pub fn call_examples()
+    ensures stops { Stops }
+    ensures earlier { CallsEarlier }
+    ensures steps { CallsEarlierInSteps }
+    ensures itself { CallsItself }
+{}
+
+/// How control goes through loops, `break`, `return` and blocks, and for how many steps.
+pub fn control_examples()
+    ensures endless { EndlessLoop }
+    ensures endless_calls { EndlessLed }
+    ensures left { LoopLeft }
+    ensures left_in_steps { LoopLeftInSteps }
+    ensures returns { Returns }
+    ensures blocks { Blocks }
+{}
+
+/// What a unit lets the outside call.
+pub fn export_examples()
+    ensures { Exported }
+{}

@@ -1,0 +1,8 @@
+//! Laws of texts, for the layers above: a call of one brings its clause.
+
+ghost use Rattle.c_text.specs.Laws.{RightUnitsReadBack};
+
+/// A unit of the subset whose names and types are right reads back from its own text.
+pub fn right_units_read_back()
+    ensures { RightUnitsReadBack }
+{}

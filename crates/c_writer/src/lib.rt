@@ -1,0 +1,17 @@
+//! Writes a unit of the C subset as its text.
+//!
+//! One small function for each form puts its pieces, and a buffer hands them on to the sink as few large ones.
+#![tactic(auto)]
+
+mod decl;
+mod expr;
+mod gathered;
+mod pending;
+mod pieces;
+mod stmt;
+#[cfg(test)]
+mod tests;
+mod types;
+mod unit;
+
+pub use unit::write_unit;

@@ -1,0 +1,213 @@
+-- The lowered unit follows its module, call by call, and so both directions hold of their runs.
+use Rattle.std.proofs.Common.{◌≡◌, ◌≢◌, ℕ, zero, suc, ℤ, ◌<◌, ◌≤◌, ◌^◌, Bool, true, false, List, [], ◌∷◌, map, Option, Some, None, Ok, refl, sym, ◌∙◌, ap, subst, arith}
+use Rattle.std.specs.Prelude.{All, IsTrue, if◌then◌else◌, replicate}
+use Rattle.std.proofs.lemmas.List.Elements.{All-head, All-tail}
+use Rattle.iv_base.specs.declared.IntKind.TheVariants.{U8}
+use Rattle.iv_base.specs.declared.Export.{Export}
+use Rattle.iv_base.specs.Scripts.{same_word, export_of, found_fits, values_fit}
+use Rattle.step_semantics.specs.Steps.{World, Progress, Part, give, after, bind, tick, left}
+use Rattle.step_semantics.specs.Control.{Control, Falls, Broke, Returned, onward}
+use Rattle.step_semantics.specs.Imports.{import_call}
+use Rattle.step_semantics.specs.Follows.{Follows}
+use Rattle.step_semantics.specs.Bodies.{Returns, BodiesFollow}
+use Rattle.step_semantics.proofs.Equations.{after_after}
+use Rattle.step_semantics.proofs.Following.{as_is, eased, rests, both_tick, bound, finished, wrapped}
+use Rattle.step_semantics.proofs.ImportFollows.{import_then_follows}
+use Rattle.step_semantics.proofs.RunFollows.{run_refines}
+use Rattle.ivory_parser.specs.declared.FirstModule.{FirstModule}
+use Rattle.ivory_parser.specs.declared.FirstImport.{FirstImport}
+use Rattle.ivory_parser.specs.declared.FirstProc.{FirstProc}
+use Rattle.ivory_parser.specs.declared.FirstCall.{FirstCall}
+use Rattle.ivory_parser.specs.Valid.{CallFits, Valid}
+use Rattle.core_meaning.specs.Source as source
+use Rattle.core_meaning.proofs.Source.{runs_defined}
+use Rattle.c_meaning.specs.declared.Target.TheVariants.{T32}
+use Rattle.c_meaning.specs.declared.CScalar.TheVariants.{Int}
+use Rattle.c_meaning.specs.declared.CType.TheVariants.{Value}
+use Rattle.c_meaning.specs.Names.{prefixed}
+use Rattle.c_meaning.specs.Syntax.{Function}
+use Rattle.c_meaning.specs.Values.{CValue, as_arguments}
+use Rattle.c_meaning.specs.State.{Program, CState, seen, leave}
+use Rattle.c_meaning.specs.Expressions.{eval_all}
+use Rattle.c_meaning.specs.Calls.{Calls, no_functions, given, piece_of, outside, call_found, call}
+use Rattle.c_meaning.specs.Statements.{exec, exec_all}
+use Rattle.c_meaning.specs.Runs.{function_value, number_of, entered, entry_among, with_function, entry}
+use Rattle.c_meaning.proofs.Lawful.{entry_lawful}
+use Rattle.c_lower.specs.Shape.{extern_for}
+use Rattle.c_lower.specs.Lowered.{constant_for, name_of, call_for, body_for, function_for, lowered}
+use Rattle.c_lower.specs.Refines.{Refines}
+use Rattle.c_lower.proofs.Imports.{found}
+use Rattle.c_lower.proofs.Constants.{int_value, byte_value, constants_are, arguments_are}
+
+-- the same bytes reach the outside
+pieces_are : (values : List ℕ) → map piece_of (map byte_value values) ≡ source.pieces values
+pieces_are [] = refl
+pieces_are (v ∷ vs) = ap (λ rest. piece_of (byte_value v) ∷ rest) (pieces_are vs)
+
+-- a step, and then both parts
+tick_then : {S A B : Type 0} (part : Part S A) (next : A → Part S B) (n : ℕ) (w : World) (s : S) → after (tick part n w s) next ≡ tick (bind part next) n w s
+tick_then part next zero w s = refl
+tick_then part next (suc n) w s = refl
+
+-- states hold nothing yet
+abbrev Alike : source.State → CState → Type 0
+Alike s t = Unit {0}
+
+-- both fall through: there is no loop and no return yet
+abbrev Fell : Control (Option ℤ) → source.State → Control (Option CValue) → CState → Type 0
+Fell Falls s Falls t = Unit {0}
+Fell Falls s Broke t = ⊥
+Fell Falls s (Returned u) t = ⊥
+Fell Broke s b t = ⊥
+Fell (Returned v) s b t = ⊥
+
+-- whatever the states
+fell_still : (a : Control (Option ℤ)) (s : source.State) (b : Control (Option CValue)) (t t' : CState) → Fell a s b t → Fell a s b t'
+fell_still Falls s Falls t t' fell = fell
+fell_still Falls s Broke t t' fell = absurd fell
+fell_still Falls s (Returned u) t t' fell = absurd fell
+fell_still Broke s b t t' fell = absurd fell
+fell_still (Returned v) s b t t' fell = absurd fell
+
+module _ (m : FirstModule) (valid : Valid m) where
+  abbrev program : Program
+  program = record { target = T32; unit = lowered m }
+
+  abbrev NameDiffers : List ℕ → List ℕ → Type 0
+  NameDiffers a b = a ≢ b
+
+  abbrev Small : ℕ → Type 0
+  Small v = v < 2 ^ 8
+
+  -- ---- one call
+
+  module _ (functions : Calls) (c : FirstCall) (fits : CallFits m.imports c) where
+    abbrev target : FirstImport
+    target = fits.target
+
+    -- what a call comes to, once its step is taken
+    abbrev reached : Part CState (Option CValue)
+    reached = outside program (extern_for target) (map byte_value c.values)
+
+    arguments : as_arguments T32 (extern_for target).params (map int_value c.values) ≡ Ok (map byte_value c.values)
+    arguments = ap (λ k. as_arguments T32 (replicate k (Value (Int U8))) (map int_value c.values)) (sym fits.counted) ∙ arguments_are c.values fits.small
+
+    call_is : call program functions (prefixed target.name) (map int_value c.values) ≡ reached
+    call_is =
+        ap (λ x. call_found program functions (prefixed target.name) (map int_value c.values) x) (found (map (λ p. p.name) m.procs) m.imports valid.different c.import target fits.found)
+        ∙ ap (λ r. given program r (outside program (extern_for target))) arguments
+
+    exec_is : (j : ℕ) (w : World) (t : CState) → exec program functions (call_for m.imports c) j w t ≡ tick (bind reached (λ result. give Falls)) j w t
+    exec_is j w t =
+        ap (λ name. after (given program (eval_all program (map constant_for c.values) t) (λ values. tick (call program functions (prefixed name) values)) j w t) (λ result. give Falls)) (ap name_of fits.found)
+        ∙ ap (λ r. after (given program r (λ values. tick (call program functions (prefixed target.name) values)) j w t) (λ result. give Falls)) (constants_are (lowered m) t c.values fits.small)
+        ∙ ap (λ part. after (tick part j w t) (λ result. give Falls)) call_is
+        ∙ tick_then reached (λ result. give Falls) j w t
+
+    -- what each side does in that step
+    abbrev act : Part source.State (Control (Option ℤ))
+    act = bind (import_call source.observed target.name (source.pieces c.values) []) (λ reply. give Falls)
+
+    abbrev c_act : Part CState (Control (Option CValue))
+    c_act = bind reached (λ result. give Falls)
+
+    acts_follow : (n : ℕ) (w : World) (s : source.State) (t : CState) → Follows Fell 0 0 n (act n w s) (λ j. c_act j w t)
+    acts_follow n w s t =
+        let next : List ℤ → Part CState (Control (Option CValue)) = λ reply. give Falls in
+        let value : List ℤ → Part CState (Option CValue) = λ reply. give None in
+        as_is Fell 0 0 n (act n w s) (λ j. c_act j w t) (λ j. after (import_call (seen program) target.name (source.pieces c.values) [] j w t) next)
+        (λ j. after_after (import_call (seen program) target.name (map piece_of (map byte_value c.values)) [] j w t) value (λ result. give Falls)
+        ∙ ap (λ pieces. after (import_call (seen program) target.name pieces [] j w t) next) (pieces_are c.values))
+        (import_then_follows source.observed (seen program) s t refl 0 Fell 0 target.name (source.pieces c.values) [] (λ reply. give Falls) next n w
+        (λ values ok i le v. rests Fell 0 Falls Falls i v s t tt))
+
+    exec_follows : (n : ℕ) (w : World) (s : source.State) (t : CState) → Follows Fell 0 0 n (source.exec m.imports c n w s) (λ j. exec program functions (call_for m.imports c) j w t)
+    exec_follows n w s t =
+        subst (λ i. Follows Fell 0 0 n (source.call_of i c.values n w s) (λ j. exec program functions (call_for m.imports c) j w t)) (sym fits.found)
+        (as_is Fell 0 0 n (tick act n w s) (λ j. exec program functions (call_for m.imports c) j w t) (λ j. tick c_act j w t) (λ j. exec_is j w t)
+        (both_tick Fell 0 0 act c_act w s t (λ i. eased Fell 0 0 15 0 i (act i w s) (λ j. c_act j w t) (omega arith) (omega arith) (acts_follow i w s t)) n))
+
+  -- ---- bodies
+
+  abbrev CallIsRight : FirstCall → Type 0
+  CallIsRight = CallFits m.imports
+
+  abbrev BodyIsRight : FirstProc → Type 0
+  BodyIsRight p = All CallIsRight p.calls
+
+  -- the statements after one that fell through
+  onward_follows : (next : Part source.State (Control (Option ℤ))) (next' : Part CState (Control (Option CValue))) (n : ℕ) → ((s : source.State) (t : CState) (i : ℕ) (w : World) → Follows Fell 0 0 i (next i w s) (λ j. next' j w t))
+      → (a : Control (Option ℤ)) (s : source.State) (b : Control (Option CValue)) (t : CState) → Fell a s b t → (i : ℕ) → i ≤ n → (w : World) → Follows Fell 0 0 i (onward next a i w s) (λ j. onward next' b j w t)
+  onward_follows next next' n h Falls s Falls t fell i le w = h s t i w
+  onward_follows next next' n h Falls s Broke t fell i le w = absurd fell
+  onward_follows next next' n h Falls s (Returned u) t fell i le w = absurd fell
+  onward_follows next next' n h Broke s b t fell i le w = absurd fell
+  onward_follows next next' n h (Returned v) s b t fell i le w = absurd fell
+
+  module _ (functions : Calls) where
+    body_follows : (cs : List FirstCall) → All CallIsRight cs → (s : source.State) (t : CState) (n : ℕ) (w : World) → Follows Fell 0 0 n (source.execs m.imports cs n w s) (λ j. exec_all program functions (body_for m.imports cs) j w t)
+    body_follows [] right s t n w = rests Fell 0 Falls Falls n w s t tt
+    body_follows (c ∷ cs) right s t n w =
+        let rest : Part source.State (Control (Option ℤ)) = source.execs m.imports cs in
+        let rest' : Part CState (Control (Option CValue)) = exec_all program functions (body_for m.imports cs) in
+        bound Fell Fell 0 0 0 n (source.exec m.imports c n w s) (λ j. exec program functions (call_for m.imports c) j w t) (onward rest) (onward rest')
+        (exec_follows functions c (All-head CallIsRight c cs right) n w s t)
+        (onward_follows rest rest' n (λ u v i x. body_follows cs (All-tail CallIsRight c cs right) u v i x))
+
+    -- ---- procedures
+
+    abbrev SameValue : Option ℤ → source.State → Option CValue → CState → Type 0
+    SameValue result s value t = number_of value ≡ result
+
+    value_follows : (a : Control (Option ℤ)) (s : source.State) (b : Control (Option CValue)) (t : CState) → Fell a s b t → (n : ℕ) (w : World) → Follows SameValue 0 0 n (give (source.result_of a) n w s) (λ j. function_value program b j w t)
+    value_follows Falls s Falls t fell n w = rests SameValue 0 None None n w s t refl
+    value_follows Falls s Broke t fell n w = absurd fell
+    value_follows Falls s (Returned u) t fell n w = absurd fell
+    value_follows Broke s b t fell n w = absurd fell
+    value_follows (Returned v) s b t fell n w = absurd fell
+
+    entered_follows : (p : FirstProc) → BodyIsRight p → (s : source.State) (t : CState) (n : ℕ) (w : World) → Follows (Returns Alike) 15 0 n (source.entered m.imports (Some p) n w s) (λ j. entered program functions (function_for m.imports p) [] j w t)
+    entered_follows p right s t n w =
+        let body : Progress source.State (Control (Option ℤ)) = source.execs m.imports p.calls n w s in
+        let own : CState = record t { names = [] } in
+        let body' : ℕ → Progress CState (Control (Option CValue)) = λ j. exec_all program functions (body_for m.imports p.calls) j w own in
+        let ends : Control (Option ℤ) → Part source.State (Option ℤ) = λ control. give (source.result_of control) in
+        let number : Option CValue → Part CState (Option ℤ) = λ value. give (number_of value) in
+        eased (Returns Alike) 0 0 15 0 n (after body ends) (λ j. after (after (left leave t (body' j)) (function_value program)) number) (omega arith) (omega arith)
+        (finished SameValue (Returns Alike) 0 0 0 n (after body ends) (λ j. after (left leave t (body' j)) (function_value program)) number
+        (bound Fell SameValue 0 0 0 n body (λ j. left leave t (body' j)) ends (function_value program)
+        (wrapped Fell Fell leave t 0 0 n body body' (λ a u b v fell. fell_still a u b v (leave t v) fell) (body_follows p.calls right s own n w))
+        (λ a u b v fell i le x. value_follows a u b v fell i x))
+        (λ a u b v same i x. rests (Returns Alike) 0 a (number_of b) i x u v (record { same = same; states = tt })))
+
+  -- ---- entry calls
+
+  no_values : (values : List ℤ) → IsTrue (values_fit [] values) → values ≡ []
+  no_values [] fit = refl
+  no_values (v ∷ vs) fit = let no : ⊥ = cc in absurd no
+
+  module _ (name : List ℕ) (values : List ℤ) (n : ℕ) (w : World) (s : source.State) (t : CState) where
+    -- this procedure, or one of those after it
+    chosen_follows : (b : Bool) (p : FirstProc) (earlier : Calls) (x : Export) (later : Option FirstProc) (later' : Option Export) (rest : Part CState (Option ℤ)) → BodyIsRight p → x ≡ source.export_for p
+        → (IsTrue (found_fits later' values) → Follows (Returns Alike) 15 0 n (source.entered m.imports later n w s) (λ j. rest j w t)) → IsTrue (found_fits (if b then Some x else later') values)
+        → Follows (Returns Alike) 15 0 n (source.entered m.imports (if b then Some p else later) n w s) (λ j. (if b then entered program earlier (function_for m.imports p) values else rest) j w t)
+    chosen_follows true p earlier x later later' rest right is go fits =
+        let none : values ≡ [] = no_values values (subst (λ y. IsTrue (values_fit y.params values)) is fits) in
+        subst (λ vs. Follows (Returns Alike) 15 0 n (source.entered m.imports (Some p) n w s) (λ j. entered program earlier (function_for m.imports p) vs j w t)) (sym none) (entered_follows earlier p right s t n w)
+    chosen_follows false p earlier x later later' rest right is go fits = go fits
+
+    entry_follows : (ps : List FirstProc) → All BodyIsRight ps → (earlier : Calls) → IsTrue (found_fits (export_of name (map source.export_for ps)) values)
+        → Follows (Returns Alike) 15 0 n (source.entered m.imports (source.proc_of name ps) n w s) (λ j. entry_among program earlier (map (function_for m.imports) ps) name values j w t)
+    entry_follows [] right earlier fits = let no : ⊥ = cc in absurd no
+    entry_follows (p ∷ ps) right earlier fits =
+        let f : Function = function_for m.imports p in
+        chosen_follows (same_word p.name name) p earlier (source.export_for p) (source.proc_of name ps) (export_of name (map source.export_for ps))
+        (entry_among program (with_function program earlier f) (map (function_for m.imports) ps) name values) (All-head BodyIsRight p ps right) refl
+        (entry_follows ps (All-tail BodyIsRight p ps right) (with_function program earlier f)) fits
+
+  bodies_follow : BodiesFollow Alike (source.exports_of m) (source.enter m) (entry program)
+  bodies_follow entry_call fits n w s t alike = entry_follows entry_call.name entry_call.values n w s t m.procs valid.calls (no_functions program) fits
+
+  pub lowered_refines : Refines m (lowered m) T32
+  lowered_refines script fits =
+      run_refines source.observed (seen program) Alike (λ s t alike. refl) (source.exports_of m) (source.enter m) (entry program) (entry_lawful program) bodies_follow tt (record { names = [] }) tt script fits (runs_defined m valid script fits)

@@ -1,0 +1,10 @@
+pub mod Lists
+pub mod Words
+pub mod Imports
+pub mod Constants
+pub mod Follows
+pub mod Identifiers
+pub mod Spelled
+pub mod Declared
+pub mod Shaped
+pub mod Compiles

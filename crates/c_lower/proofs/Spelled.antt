@@ -1,0 +1,76 @@
+-- The lowered unit is in the subset.
+use Rattle.std.proofs.Common.{ℕ, zero, suc, ◌<◌, ◌^◌, List, [], ◌∷◌, ◌++◌, map, refl, sym, subst, arith}
+use Rattle.std.specs.Prelude.{slice_get, All, replicate}
+use Rattle.std.proofs.lemmas.List.Elements.{All-nil, All-head, All-tail, All-cons}
+use Rattle.iv_base.specs.declared.IntKind.TheVariants.{U8}
+use Rattle.ivory_parser.specs.declared.FirstModule.{FirstModule}
+use Rattle.ivory_parser.specs.declared.FirstImport.{FirstImport}
+use Rattle.ivory_parser.specs.declared.FirstProc.{FirstProc}
+use Rattle.ivory_parser.specs.declared.FirstCall.{FirstCall}
+use Rattle.ivory_parser.specs.Names.{IsName}
+use Rattle.ivory_parser.specs.Valid.{CallFits, Valid}
+use Rattle.c_meaning.specs.declared.CScalar.TheVariants.{Int}
+use Rattle.c_meaning.specs.declared.CType.TheVariants.{Value}
+use Rattle.c_meaning.specs.Names.{prefixed}
+use Rattle.c_text.specs.Identifiers.{IsIdentifier}
+use Rattle.c_text.specs.Subset.{IsScalar, ExprInSubset, CallInSubset, StmtsInSubset, ExternInSubset, FunctionInSubset, InSubset}
+use Rattle.c_lower.specs.Shape.{extern_for}
+use Rattle.c_lower.specs.Lowered.{constant_for, name_of, body_for, function_for, lowered}
+use Rattle.c_lower.proofs.Lists.{all_mapped, all_before, all_after, at_place}
+use Rattle.c_lower.proofs.Identifiers.{prefixed_identifier}
+
+scalars : (k : ℕ) → All IsScalar (replicate k (Value (Int U8)))
+scalars zero = All-nil IsScalar
+scalars (suc k) = All-cons IsScalar (Value (Int U8)) (replicate k (Value (Int U8))) tt (scalars k)
+
+abbrev Small : ℕ → Type 0
+Small v = v < 2 ^ 8
+
+constant_in_subset : (v : ℕ) → Small v → ExprInSubset (constant_for v)
+constant_in_subset v small = omega (arith, small)
+
+extern_in_subset : (i : FirstImport) → IsName i.name → ExternInSubset (extern_for i)
+extern_in_subset i named = record { name = prefixed_identifier i.name named; params = scalars i.params; result = tt }
+
+module _ (imports : List FirstImport) (rest : List (List ℕ)) (named : All IsName (map (λ i. i.name) imports ++ rest)) where
+  call_in_subset : (c : FirstCall) → CallFits imports c → CallInSubset (record { name = prefixed (name_of (slice_get imports c.import)); args = map constant_for c.values })
+  call_in_subset c fits = record {
+    name = subst (λ i. IsIdentifier (prefixed (name_of i))) (sym fits.found) (prefixed_identifier fits.target.name (at_place (λ i. i.name) rest IsName imports named c.import fits.target fits.found));
+    args = all_mapped Small ExprInSubset constant_for constant_in_subset c.values fits.small;
+  }
+
+  calls_in_subset : (cs : List FirstCall) → All (CallFits imports) cs → StmtsInSubset (body_for imports cs)
+  calls_in_subset [] fits = tt
+  calls_in_subset (c ∷ cs) fits = (call_in_subset c (All-head (CallFits imports) c cs fits), calls_in_subset cs (All-tail (CallFits imports) c cs fits))
+
+  functions_in_subset : (ps : List FirstProc) → All IsName (map (λ p. p.name) ps) → All (λ p. All (CallFits imports) p.calls) ps → All FunctionInSubset (map (function_for imports) ps)
+  functions_in_subset [] names fits = All-nil FunctionInSubset
+  functions_in_subset (p ∷ ps) names fits =
+      All-cons FunctionInSubset (function_for imports p) (map (function_for imports) ps)
+      (record {
+        name = prefixed_identifier p.name (All-head IsName p.name (map (λ p. p.name) ps) names);
+        params = refl;
+        result = tt;
+        body = calls_in_subset p.calls (All-head (λ p. All (CallFits imports) p.calls) p ps fits);
+      })
+      (functions_in_subset ps (All-tail IsName p.name (map (λ p. p.name) ps) names) (All-tail (λ p. All (CallFits imports) p.calls) p ps fits))
+
+externs_in_subset : (is : List FirstImport) → All IsName (map (λ i. i.name) is) → All ExternInSubset (map extern_for is)
+externs_in_subset [] named = All-nil ExternInSubset
+externs_in_subset (i ∷ is) named =
+    All-cons ExternInSubset (extern_for i) (map extern_for is) (extern_in_subset i (All-head IsName i.name (map (λ i. i.name) is) named)) (externs_in_subset is (All-tail IsName i.name (map (λ i. i.name) is) named))
+
+module _ (m : FirstModule) (valid : Valid m) where
+  abbrev pub import_names : List (List ℕ)
+  import_names = map (λ i. i.name) m.imports
+
+  abbrev pub proc_names : List (List ℕ)
+  proc_names = map (λ p. p.name) m.procs
+
+  pub lowered_in_subset : InSubset (lowered m)
+  lowered_in_subset = record {
+    structs = refl;
+    objects = refl;
+    externs = externs_in_subset m.imports (all_before IsName import_names proc_names valid.named);
+    functions = functions_in_subset m.imports proc_names valid.named m.procs (all_after IsName import_names proc_names valid.named) valid.calls;
+  }

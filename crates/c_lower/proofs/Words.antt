@@ -1,0 +1,36 @@
+-- Equality of words, and of words with the prefix of C names before them.
+use Rattle.std.proofs.Common.{◌≡◌, ◌≢◌, ℕ, Bool, true, false, List, [], ◌∷◌, refl, ◌∙◌, ap}
+use Rattle.std.specs.Prelude.{nat_eq, ◌&&◌}
+use Rattle.std.proofs.lemmas.Bool.{and_parts, eqb-true, eq-eqb}
+use Rattle.iv_base.specs.Scripts.{same_word}
+use Rattle.c_meaning.specs.Names.{prefixed, outer_name, stop_name}
+
+pub same_self : (a : List ℕ) → same_word a a ≡ true
+same_self [] = refl
+same_self (x ∷ xs) = ap (λ b. b && same_word xs xs) (eq-eqb x x refl) ∙ same_self xs
+
+pub same_equal : (a b : List ℕ) → same_word a b ≡ true → a ≡ b
+same_equal [] [] h = refl
+same_equal [] (y ∷ ys) h = cc
+same_equal (x ∷ xs) [] h = cc
+same_equal (x ∷ xs) (y ∷ ys) h =
+    let p = and_parts (nat_eq x y) (same_word xs ys) h in
+    let e : x ≡ y = eqb-true x y p.0 in
+    let f : xs ≡ ys = same_equal xs ys p.1 in
+    ap (λ z. z ∷ xs) e ∙ ap (λ zs. y ∷ zs) f
+
+not_true : (b : Bool) → b ≢ true → b ≡ false
+not_true true h = absurd (h refl)
+not_true false h = refl
+
+pub same_not : (a b : List ℕ) → a ≢ b → same_word a b ≡ false
+same_not a b h = not_true (same_word a b) (λ e. h (same_equal a b e))
+
+pub same_prefixed : (a b : List ℕ) → same_word (prefixed a) (prefixed b) ≡ same_word a b
+same_prefixed a b = refl
+
+pub not_stop : (a : List ℕ) → same_word (prefixed a) stop_name ≡ false
+not_stop a = refl
+
+pub outer_prefixed : (a : List ℕ) → outer_name (prefixed a) ≡ a
+outer_prefixed a = refl

@@ -1,0 +1,4 @@
+pub mod Shape
+pub mod Refines
+pub mod Lowered
+pub mod Compiled

@@ -1,0 +1,15 @@
+ghost use Rattle.std.specs.Prelude.{◌≡◌, IfOk};
+ghost use Rattle.c_meaning.specs.Names.{prefixed};
+
+use iv_base::{Memory, Word};
+use std::alloc::Global;
+
+/// The C name for a name of the module.
+pub fn prefixed_name(alloc: Global, name: &[u8]) -> Result<Word, Memory>
+    ensures { IfOk result (λ w. w ≡ prefixed name.now) }
+{
+    let mut word = Word::new(alloc);
+    word.extend_from_slice(b"iv_")?;
+    word.extend_from_slice(name)?;
+    Ok(word)
+}

@@ -1,0 +1,3 @@
+pub mod Fronts
+pub mod Answered
+pub mod Steps

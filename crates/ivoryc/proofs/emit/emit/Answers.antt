@@ -1,0 +1,17 @@
+use Rattle.std.proofs.Common.{◌≡◌, ◌∙◌, ap, Err, refl}
+use Rattle.std.proofs.lemmas.Result.{err_from_is_err_and}
+use Rattle.ivoryc.proofs.Steps.{emitted_unmade, emitted_written}
+use Rattle.ivoryc.proofs.emit.emit.Goals as goal
+
+pub returns-in_err-unit-clause-emitted : goal.returns-in_err-unit-clause-emitted
+returns-in_err-unit-clause-emitted g c =
+    let p = err_from_is_err_and c.from_residual-in_err-unit.result c.from_residual-in_err-unit.ensures.1 in
+    let e : c.from_residual-in_err-unit.result ≡ Err c.in_err-unit.field-0.0 = p.1 ∙ ap Err p.2 in
+    rw e
+    (emitted_unmade c.args.file.now c.in_ok-text.text c.as_slice.result.now _ _ c.in_err-unit.field-0.0 c.in_ok-text.ensures.loaded c.as_slice.ensures c.in_err-unit.ensures
+    refl)
+
+pub returns-clause-emitted : goal.returns-clause-emitted
+returns-clause-emitted g c =
+    emitted_written c.args.file.now c.in_ok-text.text c.as_slice.result.now _ _ c.in_ok-unit.unit c.write.result c.in_ok-text.ensures.loaded c.as_slice.ensures
+    c.in_ok-unit.ensures c.write.ensures

@@ -1,0 +1,65 @@
+ghost use Rattle.ivoryc.specs.Calls.{change_of, store_seen, sink_seen};
+ghost use Rattle.ivoryc.specs.Promise.{Promise};
+ghost use Rattle.ivoryc.specs.Steps.{LoadsAtMostOnce, Performed, Ran};
+
+use crate::command::{Command, words_of};
+use crate::emit::emit;
+use crate::refusal::{Refusal, report};
+use crate::status::Status;
+use iv_base::{Seq, Sink, Store, Word};
+use std::alloc::Global;
+
+/// One call of the program: does what the words ask for.
+///
+/// What it makes goes to `out`, and the line of a refusal to `err`. It loads each file that the words name at most once. The
+/// status says how it ended.
+pub fn ivoryc<S: Store, K: Sink, E: Sink>(
+    alloc: Global,
+    words: &Seq<Word>,
+    store: &mut S,
+    out: &mut K,
+    err: &mut E,
+) -> Status
+    ensures { Promise (record {
+      words = words.now;
+      status = result;
+      store = change_of (store_seen S.holds S.loads S.faults) store.old store.new;
+      out = change_of (sink_seen K.held K.taken K.faults) out.old out.new;
+      err = change_of (sink_seen E.held E.taken E.faults) err.old err.new;
+    }) }
+{
+    match run(alloc, words, store, out) {
+        Ok(()) => Status::Done,
+        Err(refusal) => report(refusal, err),
+    }
+}
+
+/// Does what the words ask for, or answers why not.
+fn run<S: Store, K: Sink>(
+    alloc: Global,
+    words: &Seq<Word>,
+    store: &mut S,
+    out: &mut K,
+) -> Result<(), Refusal>
+    ensures { Ran words.now (change_of (store_seen S.holds S.loads S.faults) store.old store.new) (change_of (sink_seen K.held K.taken K.faults) out.old out.new) result }
+{
+    match words_of(alloc, words)? {
+        Some(command) => perform(alloc, &command, store, out),
+        None => Err(Refusal::Words),
+    }
+}
+
+/// Does what the command asks for, or answers why not.
+fn perform<S: Store, K: Sink>(
+    alloc: Global,
+    command: &Command,
+    store: &mut S,
+    out: &mut K,
+) -> Result<(), Refusal>
+    ensures once { LoadsAtMostOnce (change_of (store_seen S.holds S.loads S.faults) store.old store.new) }
+    ensures performed { Performed command.now (change_of (store_seen S.holds S.loads S.faults) store.old store.new) (change_of (sink_seen K.held K.taken K.faults) out.old out.new) result }
+{
+    match command {
+        Command::Emit(file) => emit(alloc, file, store, out),
+    }
+}

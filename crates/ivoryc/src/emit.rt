@@ -1,0 +1,67 @@
+ghost use Rattle.std.specs.Prelude.{◌≡◌, ◌<◌, ◌^◌};
+ghost use Rattle.c_meaning.specs.View.{unit_of};
+ghost use Rattle.c_text.specs.Spelling.{unit_text};
+ghost use Rattle.c_text.specs.Subset.{InSubset};
+ghost use Rattle.ivoryc.specs.Calls.{change_of, store_seen, sink_seen};
+ghost use Rattle.ivoryc.specs.Steps.{LoadsAtMostOnce, Loaded, Read, Made, Written, Emitted};
+
+use crate::refusal::Refusal;
+use c_lower::lower;
+use c_meaning::{CUnit, Target};
+use c_writer::write_unit;
+use iv_base::{Sink, Store, Word};
+use ivory_parser::{FirstModule, read_first};
+use std::alloc::Global;
+
+/// A module text has at most so many bytes.
+const SOURCE_LIMIT: u64 = 262_144;
+
+/// Writes the C text of the module in a file.
+pub fn emit<S: Store, K: Sink>(
+    alloc: Global,
+    file: &Word,
+    store: &mut S,
+    out: &mut K,
+) -> Result<(), Refusal>
+    ensures once { LoadsAtMostOnce (change_of (store_seen S.holds S.loads S.faults) store.old store.new) }
+    ensures emitted { Emitted file.now (change_of (store_seen S.holds S.loads S.faults) store.old store.new) (change_of (sink_seen K.held K.taken K.faults) out.old out.new) result }
+{
+    let text = load(alloc, file, SOURCE_LIMIT, store)?;
+    let unit = compile(alloc, text.as_slice())?;
+    write(&unit, out)
+}
+
+/// The first bytes under a name, up to one past the limit.
+fn load<S: Store>(alloc: Global, file: &Word, limit: u64, store: &mut S) -> Result<Word, Refusal>
+    requires { limit < 2 ^ 32 }
+    ensures once { LoadsAtMostOnce (change_of (store_seen S.holds S.loads S.faults) store.old store.new) }
+    ensures loaded { Loaded file.now limit (change_of (store_seen S.holds S.loads S.faults) store.old store.new) result }
+{
+    Ok(store.load(alloc, file, limit)?)
+}
+
+/// The C unit of a module text.
+fn compile(alloc: Global, text: &[u8]) -> Result<CUnit, Refusal>
+    ensures { Made text.now result }
+{
+    let module = read(alloc, text)?;
+    Ok(lower(alloc, &module, Target::T32)?)
+}
+
+/// The module that a text stands for.
+fn read(alloc: Global, text: &[u8]) -> Result<FirstModule, Refusal>
+    ensures { Read text.now result }
+{
+    match read_first(alloc, text)? {
+        Some(module) => Ok(module),
+        None => Err(Refusal::NotBuilt),
+    }
+}
+
+/// Writes the text of a unit.
+fn write<K: Sink>(unit: &CUnit, out: &mut K) -> Result<(), Refusal>
+    requires { InSubset (unit_of unit.now) }
+    ensures { Written (unit_text (unit_of unit.now)) (change_of (sink_seen K.held K.taken K.faults) out.old out.new) result }
+{
+    Ok(write_unit(unit, out)?)
+}

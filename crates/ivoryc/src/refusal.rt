@@ -1,0 +1,88 @@
+ghost use Rattle.ivoryc.specs.Calls.{change_of, sink_seen};
+ghost use Rattle.ivoryc.specs.Steps.{Reported, Tells};
+
+use crate::status::Status;
+use iv_base::{LoadFault, Memory, Sink, SinkFault};
+
+/// Why a command was not done.
+#[derive(Clone, Copy, Debug, Drop, PartialEq, Eq)]
+pub enum Refusal {
+    /// The words are no command.
+    Words,
+    /// The store could not read a file.
+    ReadFault,
+    /// The output took no more than a part of the text.
+    WriteFault,
+    /// Memory is wanting.
+    Memory,
+    /// The input is not built yet.
+    NotBuilt,
+}
+
+impl From<Memory> for Refusal {
+    ghost use Rattle.std.specs.Prelude.{◌≡◌};
+    ghost use Rattle.ivoryc.specs.declared.refusal.Refusal.TheVariants as refusal;
+
+    ghost from_gives = { λ _ r. r ≡ refusal.Memory };
+
+    fn from(_memory: Memory) -> Refusal {
+        Refusal::Memory
+    }
+}
+
+impl From<LoadFault> for Refusal {
+    ghost use Rattle.std.specs.Prelude.{◌≡◌};
+    ghost use Rattle.ivoryc.specs.Causes.{refusal_of_load};
+
+    ghost from_gives = { λ fault r. r ≡ refusal_of_load fault };
+
+    fn from(fault: LoadFault) -> Refusal {
+        match fault {
+            LoadFault::Fault => Refusal::ReadFault,
+            LoadFault::Memory => Refusal::Memory,
+        }
+    }
+}
+
+impl From<SinkFault> for Refusal {
+    ghost use Rattle.std.specs.Prelude.{◌≡◌};
+    ghost use Rattle.ivoryc.specs.declared.refusal.Refusal.TheVariants as refusal;
+
+    ghost from_gives = { λ _ r. r ≡ refusal.WriteFault };
+
+    fn from(_fault: SinkFault) -> Refusal {
+        Refusal::WriteFault
+    }
+}
+
+/// Tells a refusal on the error output, and answers its status.
+///
+/// Where the error output fails, the status is `WriteFault`; want of memory stays what it is. A fault of the output itself
+/// has no line.
+pub fn report<E: Sink>(refusal: Refusal, err: &mut E) -> Status
+    ensures { Reported refusal result (change_of (sink_seen E.held E.taken E.faults) err.old err.new) }
+{
+    match refusal {
+        Refusal::Words => tell(USAGE, Status::Words, err),
+        Refusal::ReadFault => tell(b"read fault\n", Status::ReadFault, err),
+        Refusal::WriteFault => Status::WriteFault,
+        Refusal::Memory => {
+            let _ = err.put(b"no memory\n");
+            Status::Memory
+        }
+        Refusal::NotBuilt => tell(b"not built yet\n", Status::NotBuilt, err),
+    }
+}
+
+const USAGE: &[u8] =
+    b"usage: ivoryc emit FILE | check FILE | sites FILE | run FILE SCRIPT N | crun CFILE SCRIPT N | big K\n";
+
+/// Puts a line, and answers the status, or `WriteFault` where the error output fails.
+fn tell<E: Sink>(line: &[u8], status: Status, err: &mut E) -> Status
+    ensures { Tells line.now status result (change_of (sink_seen E.held E.taken E.faults) err.old err.new) }
+{
+    match err.put(line) {
+        Ok(()) => status,
+        Err(SinkFault) => Status::WriteFault,
+    }
+}

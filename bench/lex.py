@@ -24,20 +24,14 @@ TEXTS = {
 MAIN = """//! Lexes standard input, and prints the number of its tokens.
 #![tactic(auto)]
 
-use std::io::{self, Read};
+use std::io;
 
 fn main(rt: HostRuntime) -> io::Result<()> {
-    let mut text = Vec::new(rt.alloc());
-    let mut input = rt.stdin();
-    let mut piece = [0u8; 4096];
-    for _ in 0..u64::MAX {
-        let count = input.read(&mut piece)?;
-        if count == 0 || count > 4096 || text.len() > 262_144 - 4096 {
-            break;
-        }
-        text.extend_from_slice(&piece[..count])?;
+    let text = io::read_to_string(rt.alloc(), rt.stdin())?;
+    if text.len() > 262_144 {
+        return println!(rt; "too long");
     }
-    match ivory_lexer::lex(rt.alloc(), text.as_slice()) {
+    match ivory_lexer::lex(rt.alloc(), text.as_bytes()) {
         Ok(tokens) => println!(rt; "{}", tokens.len()),
         Err(_) => println!(rt; "fault"),
     }
@@ -74,7 +68,7 @@ def main():
         start = instructions(program, b"")
         print(f"{'text':<24} {'bytes':>7} {'per byte':>9}")
         for name, piece in TEXTS.items():
-            text = (piece * (LIMIT // len(piece)))[: LIMIT - 8192].encode()
+            text = (piece * (LIMIT // len(piece))).encode()
             print(f"{name:<24} {len(text):>7} {(instructions(program, text) - start) / len(text):>9.1f}")
 
 

@@ -5,6 +5,7 @@ use Rattle.c_meaning.specs.declared.CUnit.{CUnit}
 use Rattle.c_meaning.specs.declared.Target.TheVariants.{T32}
 use Rattle.c_meaning.specs.View.{unit_of}
 use Rattle.c_text.specs.Spelling.{unit_text}
+use Rattle.c_text.proofs.Unique.{one_unit}
 use Rattle.c_text.specs.ReadsBack.{ReadsBack}
 use Rattle.ivoryc.specs.declared.command.Command.TheVariants.{Emit}
 use Rattle.ivoryc.specs.declared.refusal.Refusal.{Refusal}
@@ -32,6 +33,7 @@ is_compiled text u is =
       reads_back = subst Reads is.compiled.reads_back.spelled.is is.compiled.reads_back;
       shape = is.compiled.shape;
       refines = is.compiled.refines;
+      only = λ v spells. one_unit v (unit_of u) spells.in_subset is.compiled.reads_back.spelled.in_subset (sym spells.is);
     }
 
 pub emitted_unmade : (file text seen : List ℕ) (store : Change StoreSeen) (out : Change SinkSeen) (r : Refusal) → Gives store.before.holds file 262144 text

@@ -5,7 +5,7 @@ use Rattle.ivory_parser.specs.declared.FirstModule.{FirstModule}
 use Rattle.ivory_parser.specs.FirstForm.{FirstForm}
 use Rattle.c_meaning.specs.declared.Target.TheVariants.{T32}
 use Rattle.c_meaning.specs.Syntax.{TranslationUnit}
-use Rattle.c_text.specs.ReadsBack.{ReadsBack}
+use Rattle.c_text.specs.ReadsBack.{Spells, ReadsBack}
 use Rattle.c_lower.specs.Shape.{Shape}
 use Rattle.c_lower.specs.Refines.{Refines}
 use Rattle.ivoryc.specs.declared.command.Command.{Command}
@@ -18,13 +18,14 @@ use Rattle.ivoryc.specs.Calls.{Call, Unchanged, Unread, Unwritten, Took, FailedA
 
 -- ---- the headline: C text that does what a module text says
 
--- These bytes are the text of a unit with the shape of the module that the text stands for, and the unit does what the module
+-- These bytes are the text of a unit, and of no other, with the shape of the module that the text stands for, and the unit does what the module
 -- does: for every script and every number of steps, both ways, and never undefined.
 pub record IsCompiled (text bytes : List ℕ) : Type 0 where
   pub core : FirstModule
   pub form : FirstForm text core
   pub unit : TranslationUnit
   pub reads_back : ReadsBack unit bytes T32
+  pub only : (other : TranslationUnit) → Spells other bytes → other ≡ unit
   pub shape : Shape core unit
   pub refines : Refines core unit T32
 

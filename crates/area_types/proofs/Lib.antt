@@ -1,0 +1,12 @@
+pub mod View
+pub mod Truths
+pub mod Capped
+pub mod Written
+pub mod Extents
+pub mod Parts
+pub mod Sound
+pub mod Bounds
+pub mod Words
+pub mod Named
+pub mod Windows
+pub mod Within

@@ -1,0 +1,10 @@
+pub mod Syntax
+pub mod Shapes
+pub mod View
+pub mod Trees
+pub mod Sizes
+pub mod Tables
+pub mod Extents
+pub mod Interned
+pub mod Answers
+pub mod Laws

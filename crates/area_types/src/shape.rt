@@ -1,0 +1,10 @@
+use crate::area::ValueType;
+use iv_base::{Box, Word};
+
+/// The shape of an area as a text names it: lengths as they are written, and structs by name.
+#[derive(Debug, Drop, PartialEq, Eq)]
+pub enum AreaShape {
+    Stored(ValueType),
+    Array(u64, Box<AreaShape>),
+    Struct(Word),
+}

@@ -1,0 +1,4 @@
+pub mod View
+pub mod Chains
+pub mod Places
+pub mod Examples

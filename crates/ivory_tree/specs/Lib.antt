@@ -1,0 +1,10 @@
+pub mod Syntax
+pub mod Places
+pub mod View
+pub mod Nodes
+pub mod Formed
+pub mod Names
+pub mod Depth
+pub mod TextLike
+pub mod Laws
+pub mod Examples

@@ -97,14 +97,14 @@ module _ (words : List IntKind) where
 
     pub row_after : (fs : List Field) → with_field (row_extent words (fields_of trees fs)) (extent_of words a) ≡ row_extent words (after fs)
     row_after fs =
-        let row : Fields = fields_of trees fs in
-        let c : capped (capped (length (places_in row)) + capped (cells a)) ≡ capped (length (places_in (after fs))) = capped_sum (length (places_in row)) (cells a) ∙ ap capped (sym (places_after fs)) in
-        let n : capped (capped (nodes_in row) + capped (nodes a)) ≡ capped (nodes_in (after fs)) = capped_sum (nodes_in row) (nodes a) ∙ ap capped (sym (nodes_after fs)) in
-        let s : capped (capped (aligned (capped (end_of words row 0)) (alignment words a)) + capped (size words a)) ≡ capped (end_of words (after fs) 0) =
-        ap (λ x. capped (x + capped (size words a))) (capped_aligned (end_of words row 0) (alignment words a))
-        ∙ capped_sum (aligned (end_of words row 0) (alignment words a)) (size words a) ∙ ap capped (sym (end_after fs 0)) in
-        let b : max (alignment_of words row) (alignment words a) ≡ alignment_of words (after fs) = sym (alignment_after fs) in
-        let l : max (capped (levels_in row)) (capped (levels a)) ≡ capped (levels_in (after fs)) = capped_max (levels_in row) (levels a) ∙ ap capped (sym (levels_after fs)) in
+        let fields : Fields = fields_of trees fs in
+        let c : capped (capped (length (places_in fields)) + capped (cells a)) ≡ capped (length (places_in (after fs))) = capped_sum (length (places_in fields)) (cells a) ∙ ap capped (sym (places_after fs)) in
+        let n : capped (capped (nodes_in fields) + capped (nodes a)) ≡ capped (nodes_in (after fs)) = capped_sum (nodes_in fields) (nodes a) ∙ ap capped (sym (nodes_after fs)) in
+        let s : capped (capped (aligned (capped (end_of words fields 0)) (alignment words a)) + capped (size words a)) ≡ capped (end_of words (after fs) 0) =
+        ap (λ x. capped (x + capped (size words a))) (capped_aligned (end_of words fields 0) (alignment words a))
+        ∙ capped_sum (aligned (end_of words fields 0) (alignment words a)) (size words a) ∙ ap capped (sym (end_after fs 0)) in
+        let b : max (alignment_of words fields) (alignment words a) ≡ alignment_of words (after fs) = sym (alignment_after fs) in
+        let l : max (capped (levels_in fields)) (capped (levels a)) ≡ capped (levels_in (after fs)) = capped_max (levels_in fields) (levels a) ∙ ap capped (sym (levels_after fs)) in
         cc
 
 -- the limits are far below where the numbers stop

@@ -1,13 +1,23 @@
 -- The area that a shape names in a table, or why there is none.
-use Rattle.std.specs.Prelude.{ℕ, List, unwrap_or, Bool, true, ◌&&◌, not, if◌then◌else◌, is_some, nat_eq, Option, Result, Ok, Err}
+use Rattle.std.specs.Prelude.{ℕ, List, unwrap_or, Bool, true, false, ◌&&◌, not, if◌then◌else◌, is_some, nat_eq, Option, Result, Ok, Err}
 use Rattle.std.specs.Cmp.Lexicographic.{pointwise}
 use Rattle.std.specs.List.{position_from}
 use Rattle.area_types.specs.Syntax as syntax
-use Rattle.area_types.specs.Syntax.{Name, Area, StructType}
+use Rattle.area_types.specs.Syntax.{Name, ValueType, Area, StructType}
 use Rattle.area_types.specs.Shapes.{Shape, Stored, Array, Struct}
 use Rattle.area_types.specs.Tables.{Table, structs_of, written_out, is_length, is_stored, is_small}
 use Rattle.area_types.specs.declared.fault.AreaFault.{AreaFault}
 use Rattle.area_types.specs.declared.fault.AreaFault.TheVariants.{ZeroLength, LaterStruct, TooLarge}
+
+abbrev pub is_no_reference : ValueType → Bool
+is_no_reference (syntax.Ref constant region target) = false
+is_no_reference _ = true
+
+-- it stores no reference
+abbrev pub stores_no_reference : Shape → Bool
+stores_no_reference (Stored held) = is_no_reference held
+stores_no_reference (Array n element) = stores_no_reference element
+stores_no_reference (Struct name) = true
 
 -- what it stores may be stored in the table: no reference, and bits of a word that is there
 abbrev pub stores_values : (words : ℕ) → Shape → Bool

@@ -2,7 +2,7 @@
 
 ghost use Rattle.std.specs.Prelude.{◌≡◌, map, length, unwrap_or, IfOk, IsTrue};
 ghost use Rattle.area_types.specs.Answers.{Answers};
-ghost use Rattle.area_types.specs.Interned.{stores_values, number_of, has_lengths, has_structs, area_named, interned};
+ghost use Rattle.area_types.specs.Interned.{stores_no_reference, stores_values, number_of, has_lengths, has_structs, area_named, interned};
 ghost use Rattle.area_types.specs.Syntax.{Struct};
 ghost use Rattle.area_types.specs.Tables.{is_area};
 ghost use Rattle.area_types.specs.View.{area_of, shape_of, struct_of};
@@ -77,15 +77,16 @@ fn area_named(alloc: Global, shape: &AreaShape, structs: &[StructDef]) -> Result
     }
 }
 
-/// The area that a shape names in the table. Of two structs of one name the first counts.
+/// The area that a shape names in the table. Of two structs of one name the first counts. Where each item of bit data that
+/// the shape names is in the table, the result is an area of the table.
 ///
 /// Errors, tried in this order over the whole shape: `ZeroLength` where an array has the length 0 or one above 65,535,
 /// `LaterStruct` where a struct is not in the table, `TooLarge` where the area would have more than 65,535 bytes or more
 /// than 32 levels. Besides `Memory`, also where the number of a struct would have more than 32 bits.
 pub fn intern(alloc: Global, text: &AreaShape, table: &StructTable) -> Result<Area, AreaFault>
-    requires { IsTrue (stores_values (length table.now.words) (shape_of text.now)) }
+    requires { IsTrue (stores_no_reference (shape_of text.now)) }
     ensures answer { Answers area_of result (interned table.now (shape_of text.now)) }
-    ensures area { IfOk result (λ area. IsTrue (is_area table.now (area_of area))) }
+    ensures area { IsTrue (stores_values (length table.now.words) (shape_of text.now)) → IfOk result (λ area. IsTrue (is_area table.now (area_of area))) }
 {
     let structs = table.structs.as_slice();
     if !has_lengths(text) {

@@ -1,5 +1,4 @@
 ghost use Rattle.std.specs.Prelude.{ℕ, IfOk, IsTrue};
-ghost use Rattle.area_types.specs.Interned.{stores_values};
 ghost use Rattle.area_types.specs.Tables.{is_area};
 ghost use Rattle.area_types.specs.View.{area_of, shape_of};
 

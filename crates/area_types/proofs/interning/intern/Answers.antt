@@ -11,7 +11,7 @@ use Rattle.area_types.proofs.Truths.{also}
 use Rattle.area_types.proofs.interning.intern.Goals as goal
 
 pub returns-then-is_small-clause-area : goal.returns-then-is_small-clause-area
-returns-then-is_small-clause-area c =
+returns-then-is_small-clause-area c = λ stored.
     let table = c.args.table.now in
     let area = area_of c.in_ok-area.area in
     let shape = shape_of c.args.text.now in
@@ -21,7 +21,7 @@ returns-then-is_small-clause-area c =
     let lengths : IsTrue (has_lengths (shape_of c.args.text.now)) = search rules in
     let known : IsTrue (has_structs (map struct_of c.as_slice-structs.result.now) (shape_of c.args.text.now)) = search rules in
     let made : IsTrue (is_made_of (length (structs_of table)) (length table.words) (area_named (structs_of table) shape)) =
-    made_named (structs_of table) (length table.words) shape c.requires lengths (subst (λ ss. IsTrue (has_structs (map struct_of ss) shape)) structs known) in
+    made_named (structs_of table) (length table.words) shape stored lengths (subst (λ ss. IsTrue (has_structs (map struct_of ss) shape)) structs known) in
     let small : c.is_small.result ≡ is_small table.words (written_out table area) =
     c.is_small.ensures ∙ ap (λ e. nat_le e.size 65_535 && nat_le e.levels 32) c.extent.ensures.value
     ∙ small_is c.as_slice.result.now (tree_of (trees_of (map struct_of c.as_slice-structs.result.now)) area)

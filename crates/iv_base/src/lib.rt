@@ -1,5 +1,5 @@
 //! The base of every layer: words, lists and boxes that contracts see as what they hold, places in a text, the kinds of
-//! whole numbers, stores and sinks that count their faults, and the types of scripts and of what a run shows.
+//! whole numbers, and stores and sinks that count their faults.
 #![tactic(auto)]
 
 mod boxed;
@@ -14,7 +14,6 @@ mod mem_store;
 mod memory;
 mod number;
 mod place;
-mod script;
 mod seq;
 mod sink;
 mod store;
@@ -34,9 +33,6 @@ pub use mem_store::MemStore;
 pub use memory::Memory;
 pub use number::{put_number, read_number};
 pub use place::{Name, Span};
-pub use script::{
-    AreaCells, End, EntryCall, Event, Export, Outcome, Piece, Plain, Reason, Reply, Script,
-};
 pub use seq::Seq;
 pub use sink::{Sink, SinkFault};
 pub use store::{File, LoadFault, Store};

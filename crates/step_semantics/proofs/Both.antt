@@ -1,9 +1,9 @@
 -- From a part that follows another to both directions: the second refines the first.
 use Rattle.std.proofs.Common.{◌≡◌, ◌≢◌, ℕ, ◌+◌, ◌*◌, List, refl, sym, ◌∙◌, ap, subst, arith, max}
-use Rattle.iv_base.specs.declared.AreaCells.{AreaCells}
-use Rattle.iv_base.specs.declared.End.TheVariants.{Ended, Going, Undefined}
-use Rattle.iv_base.specs.declared.Outcome.{Outcome}
-use Rattle.iv_base.specs.declared.Reason.{Reason}
+use Rattle.iv_script.specs.declared.AreaCells.{AreaCells}
+use Rattle.iv_script.specs.declared.End.TheVariants.{Ended, Going, Undefined}
+use Rattle.iv_script.specs.declared.Outcome.{Outcome}
+use Rattle.iv_script.specs.declared.Reason.{Reason}
 use Rattle.step_semantics.specs.Steps.{World, Halt, FailedCheck, MissingReply, UnfitReply, NoMeaning, Progress, Finished, Halted, Exhausted, Part}
 use Rattle.step_semantics.specs.Runs.{outcome}
 use Rattle.step_semantics.specs.Lawful.{Prefix, Lawful}

@@ -1,7 +1,7 @@
 -- How parts that follow others are put together: one lemma for each way to make a part.
 use Rattle.std.proofs.Common.{◌≡◌, List, Bool, true, false, ℕ, zero, suc, ◌+◌, ◌-◌, ◌<◌, ◌≤◌, refl, sym, ◌∙◌, ap, subst, arith}
 use Rattle.std.specs.Prelude.{if◌then◌else◌}
-use Rattle.iv_base.specs.declared.AreaCells.{AreaCells}
+use Rattle.iv_script.specs.declared.AreaCells.{AreaCells}
 use Rattle.step_semantics.specs.Steps.{World, Halt, FailedCheck, MissingReply, UnfitReply, NoMeaning, Progress, Finished, Halted, Exhausted, Part, halt, after, tick, ticks, left}
 use Rattle.step_semantics.specs.Follows.{Leads, Ends, EndsAs, Follows}
 use Rattle.step_semantics.proofs.Leading.{leads_refl, leads_trans, leads_step, leads_equal, leads_eased, leads_on}

@@ -2,12 +2,12 @@
 use Rattle.std.proofs.Common.{◌≡◌, ℕ, List, [], ◌∷◌, sym, subst}
 use Rattle.std.specs.Prelude.{IsTrue}
 use Rattle.std.proofs.lemmas.Bool.{and_parts}
-use Rattle.iv_base.specs.declared.AreaCells.{AreaCells}
-use Rattle.iv_base.specs.declared.EntryCall.{EntryCall}
-use Rattle.iv_base.specs.declared.Event.TheVariants.{Ret}
-use Rattle.iv_base.specs.declared.Export.{Export}
-use Rattle.iv_base.specs.declared.Script.{Script}
-use Rattle.iv_base.specs.Scripts.{calls_fit, Fits}
+use Rattle.iv_script.specs.declared.AreaCells.{AreaCells}
+use Rattle.iv_script.specs.declared.EntryCall.{EntryCall}
+use Rattle.iv_script.specs.declared.Event.TheVariants.{Ret}
+use Rattle.iv_script.specs.declared.Export.{Export}
+use Rattle.iv_script.specs.declared.Script.{Script}
+use Rattle.iv_script.specs.Scripts.{calls_fit, Fits}
 use Rattle.step_semantics.specs.Steps.{World, tick, with_event}
 use Rattle.step_semantics.specs.Runs.{Body, returned, entry_calls, start, run}
 use Rattle.step_semantics.specs.Lawful.{Lawful}

@@ -1,6 +1,4 @@
-use crate::kind::IntKind;
-use crate::seq::Seq;
-use crate::word::Word;
+use iv_base::{IntKind, Seq, Word};
 
 /// A type whose values a script can write: a truth, or a whole number of a kind.
 #[derive(Clone, Copy, Debug, Drop, PartialEq, Eq)]

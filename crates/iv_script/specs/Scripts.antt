@@ -1,16 +1,12 @@
 -- When the values that a script gives fit the types that are wanted, and when a whole script fits what a module exports.
-use Rattle.std.specs.Prelude.{ℕ, ℤ, pos, Bool, true, false, ◌&&◌, if◌then◌else◌, int_le, nat_eq, List, [], ◌∷◌, Option, Some, None, IsTrue}
-use Rattle.std.specs.Cmp.Lexicographic.{pointwise}
+use Rattle.std.specs.Prelude.{ℕ, ℤ, pos, Bool, true, false, ◌&&◌, if◌then◌else◌, int_le, List, [], ◌∷◌, Option, Some, None, IsTrue}
+use Rattle.iv_base.specs.Words.{same_word}
 use Rattle.iv_base.specs.Kinds.{in_range}
-use Rattle.iv_base.specs.declared.script.Plain.{Plain}
-use Rattle.iv_base.specs.declared.script.Plain.TheVariants.{Truth, Int}
-use Rattle.iv_base.specs.declared.script.Export.{Export}
-use Rattle.iv_base.specs.declared.script.EntryCall.{EntryCall}
-use Rattle.iv_base.specs.declared.script.Script.{Script}
-
--- the same bytes
-abbrev pub same_word : List ℕ → List ℕ → Bool
-same_word a b = pointwise nat_eq a b
+use Rattle.iv_script.specs.declared.script.Plain.{Plain}
+use Rattle.iv_script.specs.declared.script.Plain.TheVariants.{Truth, Int}
+use Rattle.iv_script.specs.declared.script.Export.{Export}
+use Rattle.iv_script.specs.declared.script.EntryCall.{EntryCall}
+use Rattle.iv_script.specs.declared.script.Script.{Script}
 
 -- a truth is 0 or 1
 abbrev pub plain_fits : Plain → ℤ → Bool

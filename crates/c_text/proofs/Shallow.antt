@@ -5,15 +5,15 @@ use Rattle.std.specs.List.{All}
 use Rattle.std.proofs.lemmas.List.Elements.{All-head, All-tail}
 use Rattle.iv_base.specs.declared.kind.IntKind.{IntKind}
 use Rattle.iv_base.specs.declared.kind.IntKind.TheVariants.{U8, U16, U32, U64, I8, I16, I32, I64}
-use Rattle.c_meaning.specs.declared.types.CScalar.{CScalar}
-use Rattle.c_meaning.specs.declared.types.CScalar.TheVariants.{Truth, Int}
-use Rattle.c_meaning.specs.declared.types.CType.{CType}
-use Rattle.c_meaning.specs.declared.types.CType.TheVariants.{Void, Value, Pointer}
-use Rattle.c_meaning.specs.declared.types.Target.{Target}
-use Rattle.c_meaning.specs.declared.expr.Suffix.{Suffix}
-use Rattle.c_meaning.specs.declared.expr.Suffix.TheVariants.{Plain, U, Ll, Ull}
-use Rattle.c_meaning.specs.declared.unit.CExtern.{CExtern}
-use Rattle.c_meaning.specs.Syntax.{Expr, Number, Read, Address, Unary, Binary, Cast, Cond, FunctionCall, Stmt, Const, ConstCall, Object, Assign, If, IfElse, Forever, Break, Return, Block, Call, Stmts, Nil, Cons, Function, TranslationUnit}
+use Rattle.c_ast.specs.declared.types.CScalar.{CScalar}
+use Rattle.c_ast.specs.declared.types.CScalar.TheVariants.{Truth, Int}
+use Rattle.c_ast.specs.declared.types.CType.{CType}
+use Rattle.c_ast.specs.declared.types.CType.TheVariants.{Void, Value, Pointer}
+use Rattle.c_ast.specs.declared.types.Target.{Target}
+use Rattle.c_ast.specs.declared.expr.Suffix.{Suffix}
+use Rattle.c_ast.specs.declared.expr.Suffix.TheVariants.{Plain, U, Ll, Ull}
+use Rattle.c_ast.specs.declared.unit.CExtern.{CExtern}
+use Rattle.c_ast.specs.Syntax.{Expr, Number, Read, Address, Unary, Binary, Cast, Cond, FunctionCall, Stmt, Const, ConstCall, Object, Assign, If, IfElse, Forever, Break, Return, Block, Call, Stmts, Nil, Cons, Function, TranslationUnit}
 use Rattle.c_text.specs.Identifiers.{IsIdentifier}
 use Rattle.c_text.specs.Spelling.{line, kind_text, scalar_text, type_text, suffix_text, listed, expr_text, call_text, indent, stmt_text, stmts_text, params_text, extern_text, storage_text, function_text, texts, head_text, unit_text}
 use Rattle.c_text.specs.Subset.{ExprInSubset, CallInSubset, StmtInSubset, StmtsInSubset, ExternInSubset, FunctionInSubset, InSubset}

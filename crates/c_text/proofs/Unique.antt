@@ -4,11 +4,11 @@ use Rattle.std.specs.Prelude.{All, codes}
 use Rattle.std.proofs.lemmas.List.{append_cancel_left}
 use Rattle.std.proofs.lemmas.List.Elements.{All-head, All-tail}
 use Rattle.iv_base.specs.declared.IntKind.TheVariants.{U8, U16, U32, U64, I8, I16, I32, I64}
-use Rattle.c_meaning.specs.declared.CScalar.TheVariants.{Truth, Int}
-use Rattle.c_meaning.specs.declared.CType.{CType}
-use Rattle.c_meaning.specs.declared.CType.TheVariants.{Void, Value, Pointer}
-use Rattle.c_meaning.specs.declared.CExtern.{CExtern}
-use Rattle.c_meaning.specs.Syntax.{FunctionCall, Stmt, Const, ConstCall, Object, Assign, If, IfElse, Forever, Break, Return, Block, Call, Stmts, Nil, Cons, Function, TranslationUnit}
+use Rattle.c_ast.specs.declared.CScalar.TheVariants.{Truth, Int}
+use Rattle.c_ast.specs.declared.CType.{CType}
+use Rattle.c_ast.specs.declared.CType.TheVariants.{Void, Value, Pointer}
+use Rattle.c_ast.specs.declared.CExtern.{CExtern}
+use Rattle.c_ast.specs.Syntax.{FunctionCall, Stmt, Const, ConstCall, Object, Assign, If, IfElse, Forever, Break, Return, Block, Call, Stmts, Nil, Cons, Function, TranslationUnit}
 use Rattle.c_text.specs.Identifiers.{is_identifier_byte}
 use Rattle.c_text.specs.Spelling.{head_text, type_text, listed, expr_text, stmt_text, stmts_text, params_text, extern_text, storage_text, function_text, texts, unit_text}
 use Rattle.c_text.specs.Subset.{IsResult, ExprInSubset, CallInSubset, StmtInSubset, StmtsInSubset, ExternInSubset, FunctionInSubset, InSubset}

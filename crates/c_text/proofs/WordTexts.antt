@@ -11,13 +11,13 @@ use Rattle.std.proofs.lemmas.List.Folds.{list_all-append}
 use Rattle.std.proofs.lemmas.List.Elements.{All-head, All-tail, All-nil, All-cons}
 use Rattle.iv_base.specs.declared.IntKind.{IntKind}
 use Rattle.iv_base.specs.declared.IntKind.TheVariants.{U8, U16, U32, U64, I8, I16, I32, I64}
-use Rattle.iv_base.specs.Scripts.{same_word}
-use Rattle.c_meaning.specs.declared.CScalar.TheVariants.{Truth, Int}
-use Rattle.c_meaning.specs.declared.CType.{CType}
-use Rattle.c_meaning.specs.declared.CType.TheVariants.{Void, Value, Pointer}
-use Rattle.c_meaning.specs.declared.Suffix.{Suffix}
-use Rattle.c_meaning.specs.declared.Suffix.TheVariants.{Plain, U, Ll, Ull}
-use Rattle.c_meaning.specs.Syntax.{Expr, Number, Read, Address, Unary, Binary, Cast, Cond}
+use Rattle.iv_base.specs.Words.{same_word}
+use Rattle.c_ast.specs.declared.CScalar.TheVariants.{Truth, Int}
+use Rattle.c_ast.specs.declared.CType.{CType}
+use Rattle.c_ast.specs.declared.CType.TheVariants.{Void, Value, Pointer}
+use Rattle.c_ast.specs.declared.Suffix.{Suffix}
+use Rattle.c_ast.specs.declared.Suffix.TheVariants.{Plain, U, Ll, Ull}
+use Rattle.c_ast.specs.Syntax.{Expr, Number, Read, Address, Unary, Binary, Cast, Cond}
 use Rattle.c_text.specs.Identifiers.{is_letter, is_digit, is_identifier_byte}
 use Rattle.c_text.specs.Spelling.{type_text, suffix_text, listed, expr_text, params_text}
 use Rattle.c_text.specs.Subset.{IsScalar, IsResult, ExprInSubset}

@@ -2,8 +2,8 @@
 -- and no keyword of C99 (6.4.1), type name of the subset or truth value.
 use Rattle.std.specs.Prelude.{◌≡◌, ℕ, ◌<◌, ◌≤◌, ◌==◌, ◌&&◌, ◌||◌, nat_le, Bool, false, List, [], ◌∷◌, length, codes, IsTrue}
 use Rattle.std.specs.List.{list_any, list_all}
-use Rattle.iv_base.specs.Scripts.{same_word}
-use Rattle.c_meaning.specs.Names.{prefixed}
+use Rattle.iv_base.specs.Words.{same_word}
+use Rattle.c_ast.specs.Names.{prefixed}
 
 abbrev pub is_between : ℕ → ℕ → ℕ → Bool
 is_between low high b = nat_le low b && nat_le b high

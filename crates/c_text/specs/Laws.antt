@@ -1,7 +1,7 @@
 -- What the laws of this crate say.
 use Rattle.std.specs.Prelude.{◌≡◌, ℕ, List}
-use Rattle.c_meaning.specs.declared.types.Target.{Target}
-use Rattle.c_meaning.specs.Syntax.{TranslationUnit}
+use Rattle.c_ast.specs.declared.types.Target.{Target}
+use Rattle.c_ast.specs.Syntax.{TranslationUnit}
 use Rattle.c_text.specs.Spelling.{unit_text}
 use Rattle.c_text.specs.Subset.{InSubset}
 use Rattle.c_text.specs.Right.{Right}

@@ -1,7 +1,7 @@
 -- When bytes read back as a unit: they are its text, its names and types are right, and brackets nest to at most 300.
 use Rattle.std.specs.Prelude.{◌≡◌, ℕ, ◌+◌, ◌-◌, ◌==◌, ◌||◌, ◌≤◌, Bool, List, [], ◌∷◌, take, if◌then◌else◌}
-use Rattle.c_meaning.specs.declared.types.Target.{Target}
-use Rattle.c_meaning.specs.Syntax.{TranslationUnit}
+use Rattle.c_ast.specs.declared.types.Target.{Target}
+use Rattle.c_ast.specs.Syntax.{TranslationUnit}
 use Rattle.c_text.specs.Spelling.{unit_text}
 use Rattle.c_text.specs.Subset.{InSubset}
 use Rattle.c_text.specs.Right.{Right}

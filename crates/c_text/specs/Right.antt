@@ -2,15 +2,15 @@
 -- twice, each call is of a function that is declared before it, with as many arguments as parameters, and each constant has a type.
 use Rattle.std.specs.Prelude.{◌≡◌, ◌≢◌, ℕ, List, [], ◌∷◌, ◌++◌, All, IsSome}
 use Rattle.iv_base.specs.declared.kind.IntKind.TheVariants.{U32}
-use Rattle.c_meaning.specs.declared.types.CScalar.TheVariants.{Int}
-use Rattle.c_meaning.specs.declared.types.Target.{Target}
-use Rattle.c_meaning.specs.declared.types.CType.{CType}
-use Rattle.c_meaning.specs.declared.types.CType.TheVariants.{Void, Value, Pointer}
-use Rattle.c_meaning.specs.declared.expr.Suffix.{Suffix}
-use Rattle.c_meaning.specs.declared.unit.CExtern.{CExtern}
-use Rattle.c_meaning.specs.Syntax.{Expr, Number, Read, Address, Unary, Binary, Cast, Cond, FunctionCall, Stmt, Const, ConstCall, Object, Assign, If, IfElse, Forever, Break, Return, Block, Call, Stmts, Nil, Cons, Function, TranslationUnit}
-use Rattle.c_meaning.specs.Names.{stop_name}
-use Rattle.c_meaning.specs.Values.{constant_type}
+use Rattle.c_ast.specs.declared.types.CScalar.TheVariants.{Int}
+use Rattle.c_ast.specs.declared.types.Target.{Target}
+use Rattle.c_ast.specs.declared.types.CType.{CType}
+use Rattle.c_ast.specs.declared.types.CType.TheVariants.{Void, Value, Pointer}
+use Rattle.c_ast.specs.declared.expr.Suffix.{Suffix}
+use Rattle.c_ast.specs.declared.unit.CExtern.{CExtern}
+use Rattle.c_ast.specs.Syntax.{Expr, Number, Read, Address, Unary, Binary, Cast, Cond, FunctionCall, Stmt, Const, ConstCall, Object, Assign, If, IfElse, Forever, Break, Return, Block, Call, Stmts, Nil, Cons, Function, TranslationUnit}
+use Rattle.c_ast.specs.Names.{stop_name}
+use Rattle.c_ast.specs.Conversions.{constant_type}
 use Rattle.c_text.specs.Identifiers.{IsFileName}
 
 -- what a declaration says of a function

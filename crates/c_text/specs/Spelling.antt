@@ -3,14 +3,14 @@
 use Rattle.std.specs.Prelude.{ℕ, ◌*◌, Bool, if◌then◌else◌, List, [], ◌∷◌, ◌++◌, map, replicate, codes, decimal}
 use Rattle.iv_base.specs.declared.kind.IntKind.{IntKind}
 use Rattle.iv_base.specs.declared.kind.IntKind.TheVariants.{U8, U16, U32, U64, I8, I16, I32, I64}
-use Rattle.c_meaning.specs.declared.types.CScalar.{CScalar}
-use Rattle.c_meaning.specs.declared.types.CScalar.TheVariants.{Truth, Int}
-use Rattle.c_meaning.specs.declared.types.CType.{CType}
-use Rattle.c_meaning.specs.declared.types.CType.TheVariants.{Void, Value, Pointer}
-use Rattle.c_meaning.specs.declared.expr.Suffix.{Suffix}
-use Rattle.c_meaning.specs.declared.expr.Suffix.TheVariants.{Plain, U, Ll, Ull}
-use Rattle.c_meaning.specs.declared.unit.CExtern.{CExtern}
-use Rattle.c_meaning.specs.Syntax.{Expr, Number, Read, Address, Unary, Binary, Cast, Cond, FunctionCall, Stmt, Const, ConstCall, Object, Assign, If, IfElse, Forever, Break, Return, Block, Call, Stmts, Nil, Cons, Function, TranslationUnit}
+use Rattle.c_ast.specs.declared.types.CScalar.{CScalar}
+use Rattle.c_ast.specs.declared.types.CScalar.TheVariants.{Truth, Int}
+use Rattle.c_ast.specs.declared.types.CType.{CType}
+use Rattle.c_ast.specs.declared.types.CType.TheVariants.{Void, Value, Pointer}
+use Rattle.c_ast.specs.declared.expr.Suffix.{Suffix}
+use Rattle.c_ast.specs.declared.expr.Suffix.TheVariants.{Plain, U, Ll, Ull}
+use Rattle.c_ast.specs.declared.unit.CExtern.{CExtern}
+use Rattle.c_ast.specs.Syntax.{Expr, Number, Read, Address, Unary, Binary, Cast, Cond, FunctionCall, Stmt, Const, ConstCall, Object, Assign, If, IfElse, Forever, Break, Return, Block, Call, Stmts, Nil, Cons, Function, TranslationUnit}
 
 -- the bytes of a line, and its end
 abbrev pub line : List ℕ → List ℕ

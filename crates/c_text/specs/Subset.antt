@@ -1,10 +1,10 @@
 -- The units that a text can spell. So far these are units of externs over scalars, and of functions without parameters whose
 -- statements are calls with constants.
 use Rattle.std.specs.Prelude.{◌≡◌, ◌^◌, ◌<◌, [], All}
-use Rattle.c_meaning.specs.declared.types.CType.{CType}
-use Rattle.c_meaning.specs.declared.types.CType.TheVariants.{Void, Value, Pointer}
-use Rattle.c_meaning.specs.declared.unit.CExtern.{CExtern}
-use Rattle.c_meaning.specs.Syntax.{Expr, Number, Read, Address, Unary, Binary, Cast, Cond, FunctionCall, Stmt, Const, ConstCall, Object, Assign, If, IfElse, Forever, Break, Return, Block, Call, Stmts, Nil, Cons, Function, TranslationUnit}
+use Rattle.c_ast.specs.declared.types.CType.{CType}
+use Rattle.c_ast.specs.declared.types.CType.TheVariants.{Void, Value, Pointer}
+use Rattle.c_ast.specs.declared.unit.CExtern.{CExtern}
+use Rattle.c_ast.specs.Syntax.{Expr, Number, Read, Address, Unary, Binary, Cast, Cond, FunctionCall, Stmt, Const, ConstCall, Object, Assign, If, IfElse, Forever, Break, Return, Block, Call, Stmts, Nil, Cons, Function, TranslationUnit}
 use Rattle.c_text.specs.Identifiers.{IsIdentifier}
 
 abbrev pub IsScalar : CType → Type 0

@@ -2,9 +2,9 @@
 use Rattle.std.proofs.Common.{◌≡◌, refl, sym, ◌∙◌, ap, subst, ℕ, ◌+◌, ◌*◌, ◌<◌, ◌≤◌, false, List, [], ◌∷◌, ◌++◌, length, take, get_or, append_assoc, arith}
 use Rattle.std.specs.Prelude.{◌==◌, map, replicate, codes}
 use Rattle.std.proofs.lemmas.List.{take_more, take_all, map-append, append-nil, replicate-append-replicate}
-use Rattle.c_meaning.specs.Syntax.{Stmt}
-use Rattle.c_meaning.specs.View.{stmts_from}
-use Rattle.c_meaning.specs.declared.types.CType.{CType}
+use Rattle.c_ast.specs.Syntax.{Stmt}
+use Rattle.c_ast.specs.View.{stmts_from}
+use Rattle.c_ast.specs.declared.types.CType.{CType}
 use Rattle.c_text.specs.Spelling.{texts, listed, type_text, params_text, stmt_text, stmts_text, indent}
 use Rattle.c_writer.specs.Stages.{Stage, Puts}
 use Rattle.c_writer.proofs.Stages.{then}

@@ -1,14 +1,14 @@
 //! Declarations and definitions of functions.
 
 ghost use Rattle.std.specs.Prelude.{◌++◌, codes, map};
-ghost use Rattle.c_meaning.specs.View.{function_of};
+ghost use Rattle.c_ast.specs.View.{function_of};
 ghost use Rattle.c_text.specs.Spelling.{listed, type_text, params_text, extern_text, function_text, storage_text, texts};
 ghost use Rattle.c_writer.specs.Stages.{Puts};
 
 use crate::pieces::Pieces;
 use crate::stmt::put_stmts;
 use crate::types::{put_type, storage_name};
-use c_meaning::{CExtern, CFunction, CType};
+use c_ast::{CExtern, CFunction, CType};
 
 /// A comma, and the type of a parameter after the first.
 fn put_further<P: Pieces>(ty: &CType, out: &mut P)

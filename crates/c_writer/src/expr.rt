@@ -1,13 +1,13 @@
 //! Expressions and calls.
 
 ghost use Rattle.std.specs.Prelude.{◌++◌, codes, decimal, map};
-ghost use Rattle.c_meaning.specs.View.{expr_of, call_of};
+ghost use Rattle.c_ast.specs.View.{expr_of, call_of};
 ghost use Rattle.c_text.specs.Spelling.{suffix_text, expr_text, listed, call_text, texts};
 ghost use Rattle.c_writer.specs.Stages.{Puts};
 
 use crate::pieces::Pieces;
 use crate::types::suffix_name;
-use c_meaning::{CCall, CExpr, Suffix};
+use c_ast::{CCall, CExpr, Suffix};
 use itoa::Buffer;
 
 /// A decimal constant and its suffix.

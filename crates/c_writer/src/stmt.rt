@@ -1,12 +1,12 @@
 //! Statements.
 
-ghost use Rattle.c_meaning.specs.View.{stmt_of, stmts_of};
+ghost use Rattle.c_ast.specs.View.{stmt_of, stmts_of};
 ghost use Rattle.c_text.specs.Spelling.{indent, stmt_text, stmts_text};
 ghost use Rattle.c_writer.specs.Stages.{Puts};
 
 use crate::expr::put_call;
 use crate::pieces::Pieces;
-use c_meaning::CStmt;
+use c_ast::CStmt;
 
 /// Two blanks for each brace that is open.
 fn put_indent<P: Pieces>(braces: usize, out: &mut P)

@@ -1,12 +1,12 @@
 ghost use Rattle.std.specs.Prelude.{◌≡◌, [], ◌∷◌, false, codes, IfOk};
-ghost use Rattle.c_meaning.specs.View.{unit_of};
+ghost use Rattle.c_ast.specs.View.{unit_of};
 ghost use Rattle.c_text.specs.Subset.{InSubset};
 
 use crate::gathered::Gathered;
 use crate::stmt::put_stmts;
 use crate::unit::put_unit;
 use crate::write_unit;
-use c_meaning::{CCall, CExpr, CExtern, CFunction, CScalar, CStmt, CType, CUnit, Suffix};
+use c_ast::{CCall, CExpr, CExtern, CFunction, CScalar, CStmt, CType, CUnit, Suffix};
 use iv_base::{IntKind, MemSink, Memory, Seq, SinkFault, Word};
 use std::alloc::Global;
 use std::test::Fail;

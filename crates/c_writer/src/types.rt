@@ -5,7 +5,7 @@ ghost use Rattle.c_text.specs.Spelling.{kind_text, scalar_text, type_text, stora
 ghost use Rattle.c_writer.specs.Stages.{Puts};
 
 use crate::pieces::Pieces;
-use c_meaning::{CScalar, CType, Suffix};
+use c_ast::{CScalar, CType, Suffix};
 use iv_base::IntKind;
 
 /// The name of a kind in `<stdint.h>`.

@@ -3,7 +3,7 @@
 ghost use Rattle.std.specs.Prelude.{◌≡◌, ◌+◌, ◌++◌, length, codes, map, OnOk, OnErr};
 ghost use Rattle.iv_base.specs.Counts.{capped};
 ghost use Rattle.iv_base.specs.Sinks.{grown, GrewByPrefix, HasCause};
-ghost use Rattle.c_meaning.specs.View.{function_of, unit_of};
+ghost use Rattle.c_ast.specs.View.{function_of, unit_of};
 ghost use Rattle.c_text.specs.Spelling.{extern_text, function_text, head_text, texts, unit_text};
 ghost use Rattle.c_text.specs.Subset.{InSubset};
 ghost use Rattle.c_writer.specs.Stages.{Puts};
@@ -11,7 +11,7 @@ ghost use Rattle.c_writer.specs.Stages.{Puts};
 use crate::decl::{put_extern, put_function};
 use crate::gathered::Gathered;
 use crate::pieces::Pieces;
-use c_meaning::{CExtern, CFunction, CUnit};
+use c_ast::{CExtern, CFunction, CUnit};
 use iv_base::{Sink, SinkFault};
 
 /// The lines with which each text begins.

@@ -1,6 +1,6 @@
 use Rattle.std.proofs.Common.{ap, sym}
 use Rattle.std.proofs.lemmas.Simd.{map-map}
-use Rattle.c_meaning.specs.View.{expr_of}
+use Rattle.c_ast.specs.View.{expr_of}
 use Rattle.c_text.specs.Spelling.{expr_text, listed}
 use Rattle.c_writer.proofs.Lists.{listed_put}
 use Rattle.c_writer.proofs.Stages.{as_text}

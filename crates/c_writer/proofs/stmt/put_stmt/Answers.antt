@@ -1,4 +1,4 @@
-use Rattle.c_meaning.proofs.View.{call_is}
+use Rattle.c_ast.proofs.View.{call_is}
 use Rattle.c_writer.proofs.Stages.{then}
 use Rattle.c_writer.proofs.stmt.put_stmt.Goals as goal
 

@@ -1,4 +1,4 @@
-use Rattle.c_meaning.specs.View.{stmt_of}
+use Rattle.c_ast.specs.View.{stmt_of}
 use Rattle.c_text.specs.Spelling.{stmt_text}
 use Rattle.c_writer.proofs.Lists.{one_more, all_put, stmts_are}
 use Rattle.c_writer.proofs.Stages.{as_text}

@@ -1,6 +1,6 @@
 use Rattle.std.proofs.Common.{take}
 use Rattle.std.specs.Prelude.{map}
-use Rattle.c_meaning.specs.View.{stmt_of}
+use Rattle.c_ast.specs.View.{stmt_of}
 use Rattle.c_text.specs.Spelling.{stmt_text, texts}
 use Rattle.c_writer.specs.Stages.{Puts}
 use Rattle.c_writer.proofs.stmt.put_stmts.Given as goal

@@ -1,6 +1,6 @@
 use Rattle.std.proofs.Common.{ap, sym}
 use Rattle.std.proofs.lemmas.Simd.{map-map}
-use Rattle.c_meaning.specs.View.{function_of}
+use Rattle.c_ast.specs.View.{function_of}
 use Rattle.c_text.specs.Spelling.{function_text, texts}
 use Rattle.c_writer.proofs.Lists.{one_more, all_put}
 use Rattle.c_writer.proofs.Stages.{as_text}

@@ -1,7 +1,7 @@
 use Rattle.std.proofs.Common.{◌≡◌, refl, arith}
 use Rattle.std.specs.Prelude.{OnOk, OnErr}
 use Rattle.iv_base.specs.Sinks.{grown, GrewByPrefix}
-use Rattle.c_meaning.specs.View.{unit_of}
+use Rattle.c_ast.specs.View.{unit_of}
 use Rattle.c_text.specs.Spelling.{unit_text}
 use Rattle.c_writer.proofs.Stages.{arrived}
 use Rattle.c_writer.proofs.unit.write_unit.Goals as goal

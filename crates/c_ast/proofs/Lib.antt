@@ -1,0 +1,12 @@
+pub mod View
+pub mod Names
+pub mod Conversions
+pub mod Ranges
+pub mod Promotions
+pub mod Modular
+pub mod Layouts
+pub mod Windows
+pub mod Parts
+pub mod Paths
+pub mod Rounds
+pub mod Structs

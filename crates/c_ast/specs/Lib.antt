@@ -1,0 +1,17 @@
+pub mod Syntax
+pub mod View
+pub mod Names
+pub mod Targets
+pub mod Conversions
+pub mod ConversionLaws
+pub mod TargetLaws
+pub mod TargetExamples
+pub mod Exports
+pub mod Examples
+pub mod Trees
+pub mod Layouts
+pub mod Scalars
+pub mod Structs
+pub mod Places
+pub mod LayoutLaws
+pub mod LayoutExamples

@@ -1,0 +1,56 @@
+ghost use Rattle.c_ast.specs.ConversionLaws.{HeldNumbersStay, ConvertedNumbersAreHeld, ConversionExamples, ConstantExamples};
+ghost use Rattle.c_ast.specs.TargetLaws.{TargetsAreSound, PromotionKeepsValues, SignedCommonKeepsValues};
+ghost use Rattle.c_ast.specs.TargetExamples.{PromotionExamples, CommonExamples, NarrowConstantExamples, NarrowIsSound};
+ghost use Rattle.c_ast.specs.Examples.{Exported};
+ghost use Rattle.c_ast.specs.LayoutLaws.{ScalarsInOrder, LeastOffsets, PartsInRow, PartsWithin};
+ghost use Rattle.c_ast.specs.LayoutExamples.{PaddedExamples, NestedExamples, AlignedExamples, NamedExamples};
+
+/// A conversion keeps a number that the type holds, and gives numbers that it holds.
+pub fn conversion_laws()
+    ensures stay { HeldNumbersStay }
+    ensures held { ConvertedNumbersAreHeld }
+    ensures examples { ConversionExamples }
+{}
+
+/// Which types constants have.
+pub fn constant_examples()
+    ensures { ConstantExamples }
+{}
+
+/// What holds of each target, and that promotions and signed common types keep values.
+pub fn target_laws()
+    ensures sound { TargetsAreSound }
+    ensures promotion { PromotionKeepsValues }
+    ensures common { SignedCommonKeepsValues }
+    ensures narrow { NarrowIsSound }
+{}
+
+/// To which types the integer promotions and the usual arithmetic conversions go.
+pub fn type_examples()
+    ensures promotion { PromotionExamples }
+    ensures common { CommonExamples }
+    ensures constants { NarrowConstantExamples }
+{}
+
+/// What a unit lets the outside call.
+pub fn export_examples()
+    ensures { Exported }
+{}
+
+/// Where the scalars of a type stand: in order of declaration, apart from one another and within the size, each member at the
+/// least offset that its alignment allows, and those of a part in a row.
+pub fn layout_laws()
+    ensures order { ScalarsInOrder }
+    ensures least { LeastOffsets }
+    ensures row { PartsInRow }
+    ensures within { PartsWithin }
+{}
+
+/// Sizes, alignments and offsets of small structs.
+#[tactic(auto, unfolding(crate::specs::Layouts::up))]
+pub fn layout_examples()
+    ensures padded { PaddedExamples }
+    ensures nested { NestedExamples }
+    ensures aligned { AlignedExamples }
+    ensures named { NamedExamples }
+{}

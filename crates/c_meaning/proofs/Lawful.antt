@@ -1,9 +1,9 @@
 -- Every part of a run of C keeps the laws of parts: events only grow, and more steps change nothing but that it goes further.
 use Rattle.std.proofs.Common.{ℤ, List, [], ◌∷◌, Option, Some, None, Bool, true, false, refl}
 use Rattle.std.specs.Prelude.{if◌then◌else◌, Result, Ok, Err}
-use Rattle.iv_base.specs.declared.EntryCall.{EntryCall}
-use Rattle.iv_base.specs.declared.Reason.{Reason}
-use Rattle.iv_base.specs.declared.Script.{Script}
+use Rattle.iv_script.specs.declared.EntryCall.{EntryCall}
+use Rattle.iv_script.specs.declared.Reason.{Reason}
+use Rattle.iv_script.specs.declared.Script.{Script}
 use Rattle.step_semantics.specs.Steps.{FailedCheck, NoMeaning, Part}
 use Rattle.step_semantics.specs.Control.{Control, Falls, Broke, Returned}
 use Rattle.step_semantics.specs.Lawful.{Lawful}
@@ -12,11 +12,11 @@ use Rattle.step_semantics.proofs.Prefixes.{prefix_refl}
 use Rattle.step_semantics.proofs.Laws.{give_lawful, halt_lawful, bind_lawful, tick_lawful, block_lawful, by_state_lawful}
 use Rattle.step_semantics.proofs.ControlLaws.{also_lawful, forever_lawful}
 use Rattle.step_semantics.proofs.RunLaws.{import_call_lawful, run_outcomes}
-use Rattle.c_meaning.specs.declared.types.CType.{CType}
-use Rattle.c_meaning.specs.declared.types.CType.TheVariants.{Void, Value, Pointer}
-use Rattle.c_meaning.specs.declared.unit.CExtern.{CExtern}
-use Rattle.c_meaning.specs.declared.unit.CParam.{CParam}
-use Rattle.c_meaning.specs.Syntax.{Name, FunctionCall, Stmt, Const, ConstCall, Object, Assign, If, IfElse, Forever, Break, Return, Block, Call, Stmts, Nil, Cons, Function}
+use Rattle.c_ast.specs.declared.CType.{CType}
+use Rattle.c_ast.specs.declared.CType.TheVariants.{Void, Value, Pointer}
+use Rattle.c_ast.specs.declared.CExtern.{CExtern}
+use Rattle.c_ast.specs.declared.CParam.{CParam}
+use Rattle.c_ast.specs.Syntax.{Name, FunctionCall, Stmt, Const, ConstCall, Object, Assign, If, IfElse, Forever, Break, Return, Block, Call, Stmts, Nil, Cons, Function}
 use Rattle.c_meaning.specs.Values.{CValue, Num, unsaid}
 use Rattle.c_meaning.specs.State.{in_own_scope, Program, CState, seen, leave}
 use Rattle.c_meaning.specs.Calls.{undefined, given, Calls, no_functions, stop_at, outside, extern_call_of, call_found, call}

@@ -1,4 +1,6 @@
-pub mod View
 pub mod Lawful
-pub mod Conversions
-pub mod Names
+pub mod OperatorRanges
+pub mod Operands
+pub mod Bits
+pub mod HeldNumbers
+pub mod Expressions

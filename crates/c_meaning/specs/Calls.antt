@@ -1,23 +1,22 @@
 -- Calls (C99 6.5.2.2), once the values of the arguments are there and the call's step is taken.
 use Rattle.std.specs.Prelude.{ℤ, unsigned_abs, List, [], ◌∷◌, map, Option, Some, None, if◌then◌else◌, Result, Ok, Err}
 use Rattle.std.specs.List.{find}
-use Rattle.iv_base.specs.Scripts.{same_word}
+use Rattle.iv_base.specs.Words.{same_word}
 use Rattle.iv_base.specs.declared.IntKind.TheVariants.{U32}
-use Rattle.iv_base.specs.declared.Piece.{Piece}
-use Rattle.iv_base.specs.declared.Piece.TheVariants as piece
-use Rattle.iv_base.specs.declared.Plain.{Plain}
-use Rattle.iv_base.specs.declared.Plain.TheVariants as plain
-use Rattle.iv_base.specs.declared.Reason.{Reason}
+use Rattle.iv_script.specs.declared.Piece.{Piece}
+use Rattle.iv_script.specs.declared.Piece.TheVariants as piece
+use Rattle.iv_script.specs.declared.Plain.{Plain}
+use Rattle.iv_script.specs.declared.Reason.{Reason}
 use Rattle.step_semantics.specs.Steps.{FailedCheck, NoMeaning, Part, give, halt, bind}
 use Rattle.step_semantics.specs.Imports.{import_call}
-use Rattle.c_meaning.specs.declared.types.CScalar.{CScalar}
-use Rattle.c_meaning.specs.declared.types.CScalar.TheVariants.{Truth, Int}
-use Rattle.c_meaning.specs.declared.types.CKind.TheVariants.{Scalar}
-use Rattle.c_meaning.specs.declared.types.CType.{CType}
-use Rattle.c_meaning.specs.declared.types.CType.TheVariants.{Void, Value, Pointer}
-use Rattle.c_meaning.specs.declared.unit.CExtern.{CExtern}
-use Rattle.c_meaning.specs.Syntax.{Name}
-use Rattle.c_meaning.specs.Names.{outer_name, stop_name}
+use Rattle.c_ast.specs.declared.CScalar.TheVariants.{Int}
+use Rattle.c_ast.specs.declared.CKind.TheVariants.{Scalar}
+use Rattle.c_ast.specs.declared.CType.{CType}
+use Rattle.c_ast.specs.declared.CType.TheVariants.{Void, Value, Pointer}
+use Rattle.c_ast.specs.declared.CExtern.{CExtern}
+use Rattle.c_ast.specs.Syntax.{Name}
+use Rattle.c_ast.specs.Names.{outer_name, stop_name}
+use Rattle.c_ast.specs.Exports.{plain_of}
 use Rattle.c_meaning.specs.Values.{CValue, Num, unsaid, as_arguments}
 use Rattle.c_meaning.specs.State.{Program, CState, seen}
 
@@ -52,10 +51,6 @@ stop_call p values = given p (as_arguments p.target (Value (Int U32) ∷ []) val
 
 abbrev pub piece_of : CValue → Piece
 piece_of (Num kind v) = piece.Value v
-
-abbrev pub plain_of : CScalar → Plain
-plain_of Truth = plain.Truth
-plain_of (Int kind) = plain.Int kind
 
 -- the types of the values that a reply gives
 abbrev pub reply_shape : CType → List Plain

@@ -1,32 +1,26 @@
 -- Small units, and exactly what their runs come to: examples that hold the definitions fast.
-use Rattle.std.specs.Prelude.{◌≡◌, ℕ, ℤ, pos, List, [], ◌∷◌, map, Some, None, Bool, true, false, codes}
+use Rattle.std.specs.Prelude.{◌≡◌, ℕ, ℤ, pos, List, [], ◌∷◌, map, None, true, false, codes}
 use Rattle.iv_base.specs.declared.IntKind.TheVariants.{U8, I8}
-use Rattle.iv_base.specs.declared.Event.{Event}
-use Rattle.iv_base.specs.declared.Event.TheVariants as event
-use Rattle.iv_base.specs.declared.Piece.TheVariants as piece
-use Rattle.iv_base.specs.declared.End.{End}
-use Rattle.iv_base.specs.declared.End.TheVariants.{Ended, Stopped, NoReply, BadReply, Going, Undefined}
-use Rattle.iv_base.specs.declared.Outcome.{Outcome}
-use Rattle.iv_base.specs.declared.Plain.TheVariants as plain
-use Rattle.iv_base.specs.declared.Reason.TheVariants.{Implementation}
-use Rattle.iv_base.specs.declared.Script.{Script}
-use Rattle.c_meaning.specs.declared.types.Target.TheVariants.{T32}
-use Rattle.c_meaning.specs.declared.types.CScalar.TheVariants.{Truth, Int}
-use Rattle.c_meaning.specs.declared.types.CType.{CType}
-use Rattle.c_meaning.specs.declared.types.CType.TheVariants.{Void, Value, Pointer}
-use Rattle.c_meaning.specs.declared.types.CBase.TheVariants.{Scalar}
-use Rattle.c_meaning.specs.declared.expr.Suffix.TheVariants.{Plain, U}
-use Rattle.c_meaning.specs.declared.unit.CExtern.{CExtern}
-use Rattle.c_meaning.specs.Syntax.{Name, Number, Stmt, Forever, Break, Return, Block, Call, Stmts, Nil, Cons, Function, TranslationUnit}
+use Rattle.iv_script.specs.declared.Event.{Event}
+use Rattle.iv_script.specs.declared.Event.TheVariants as event
+use Rattle.iv_script.specs.declared.Piece.TheVariants as piece
+use Rattle.iv_script.specs.declared.End.{End}
+use Rattle.iv_script.specs.declared.End.TheVariants.{Ended, Stopped, NoReply, BadReply, Going, Undefined}
+use Rattle.iv_script.specs.declared.Outcome.{Outcome}
+use Rattle.iv_script.specs.declared.Reason.TheVariants.{Implementation}
+use Rattle.iv_script.specs.declared.Script.{Script}
+use Rattle.c_ast.specs.declared.Target.TheVariants.{T32}
+use Rattle.c_ast.specs.declared.CScalar.TheVariants.{Truth, Int}
+use Rattle.c_ast.specs.declared.CType.{CType}
+use Rattle.c_ast.specs.declared.CType.TheVariants.{Void, Value}
+use Rattle.c_ast.specs.declared.Suffix.TheVariants.{Plain, U}
+use Rattle.c_ast.specs.declared.CExtern.{CExtern}
+use Rattle.c_ast.specs.Syntax.{Name, Number, Stmt, Forever, Break, Return, Block, Call, Nil, TranslationUnit}
+use Rattle.c_ast.specs.Examples.{rows, procedure, unit_with}
 use Rattle.c_meaning.specs.Values.{unsaid}
 use Rattle.c_meaning.specs.Runs.{run_c}
-use Rattle.c_meaning.specs.Exports.{c_exports}
 
 -- ---- writing units, scripts and outcomes
-
-abbrev pub rows : List Stmt → Stmts
-rows [] = Nil
-rows (s ∷ ss) = Cons s (rows ss)
 
 -- `NAME(V);`
 abbrev pub pass : Name → ℕ → Stmt
@@ -36,16 +30,9 @@ pass name v = Call (record { name = name; args = Number v Plain ∷ [] })
 abbrev pub plain_call : Name → Stmt
 plain_call name = Call (record { name = name; args = [] })
 
--- `void NAME(void) { .. }`, or with `static` before it
-abbrev pub procedure : Bool → Name → List Stmt → Function
-procedure hidden name body = record { hidden = hidden; name = name; params = []; result = Void; body = rows body }
-
 -- `extern void NAME(TYPE);`
 abbrev pub takes : Name → CType → CExtern
 takes name t = record { name = name; params = t ∷ []; result = Void }
-
-abbrev pub unit_with : List CExtern → List Function → TranslationUnit
-unit_with externs functions = record { structs = []; externs = externs; objects = []; functions = functions }
 
 -- `extern void iv_led(uint8_t);` and `void iv_main(void) { .. }`
 abbrev pub blinking : List Stmt → TranslationUnit
@@ -178,18 +165,3 @@ Returns = once (blinking (Forever (rows (Block (rows (Return None ∷ [])) ∷ [
 -- a block takes no step
 abbrev pub Blocks : Type 0
 Blocks = once (blinking (Block (rows (pass (codes "iv_led") 1 ∷ [])) ∷ [])) 2 ≡ outcome_of (led (pos 1) ∷ returned ∷ []) Ended
-
--- ---- exports
-
--- functions without `static` whose types are plain, without `iv_`
-abbrev pub function_of_types : Bool → Name → CType → CType → Function
-function_of_types hidden name param result = record { hidden = hidden; name = name; params = record { name = codes "iv_x"; ty = param } ∷ []; result = result; body = Nil }
-
-abbrev pub Exported : Type 0
-Exported =
-    c_exports (unit_with [] (
-    function_of_types false (codes "iv_f") (Value Truth) (Value (Int U8)) ∷
-    function_of_types true (codes "iv_g") (Value Truth) Void ∷
-    function_of_types false (codes "iv_h") (Pointer false (Scalar Truth)) Void ∷
-    procedure false (codes "iv_main") [] ∷ []))
-    ≡ record { name = codes "f"; params = plain.Truth ∷ []; result = Some (plain.Int U8) } ∷ record { name = codes "main"; params = []; result = None } ∷ []

@@ -1,10 +1,10 @@
 -- What holds of every run of C.
 use Rattle.std.specs.Prelude.{List}
-use Rattle.iv_base.specs.declared.Script.{Script}
+use Rattle.iv_script.specs.declared.Script.{Script}
 use Rattle.step_semantics.specs.Lawful.{Lawful}
 use Rattle.step_semantics.specs.Outcomes.{OutcomeLaws}
-use Rattle.c_meaning.specs.declared.types.Target.{Target}
-use Rattle.c_meaning.specs.Syntax.{Name, TranslationUnit}
+use Rattle.c_ast.specs.declared.Target.{Target}
+use Rattle.c_ast.specs.Syntax.{Name, TranslationUnit}
 use Rattle.c_meaning.specs.Values.{CValue}
 use Rattle.c_meaning.specs.Calls.{Calls}
 use Rattle.c_meaning.specs.Runs.{run_c}

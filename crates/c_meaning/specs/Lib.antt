@@ -1,13 +1,12 @@
-pub mod Syntax
-pub mod View
-pub mod Names
 pub mod Values
+pub mod Operators
 pub mod State
 pub mod Expressions
 pub mod Calls
 pub mod Statements
 pub mod Runs
-pub mod Exports
 pub mod Laws
-pub mod ValueLaws
+pub mod ExpressionLaws
+pub mod NumberExamples
+pub mod ValueExamples
 pub mod Examples

@@ -1,19 +1,19 @@
 -- Functions, entry calls, and the whole run of a unit.
 use Rattle.std.specs.Prelude.{ℕ, ℤ, List, [], ◌∷◌, Option, Some, None, ◌&&◌, not, if◌then◌else◌, Result, Ok, Err}
-use Rattle.iv_base.specs.Scripts.{same_word}
-use Rattle.iv_base.specs.declared.End.TheVariants.{Undefined}
-use Rattle.iv_base.specs.declared.Outcome.{Outcome}
-use Rattle.iv_base.specs.declared.Reason.{Reason}
-use Rattle.iv_base.specs.declared.Script.{Script}
+use Rattle.iv_base.specs.Words.{same_word}
+use Rattle.iv_script.specs.declared.End.TheVariants.{Undefined}
+use Rattle.iv_script.specs.declared.Outcome.{Outcome}
+use Rattle.iv_script.specs.declared.Reason.{Reason}
+use Rattle.iv_script.specs.declared.Script.{Script}
 use Rattle.step_semantics.specs.Steps.{Part, give, bind, block}
 use Rattle.step_semantics.specs.Control.{Control, Falls, Broke, Returned}
 use Rattle.step_semantics.specs.Runs.{Body, run}
-use Rattle.c_meaning.specs.declared.types.Target.{Target}
-use Rattle.c_meaning.specs.declared.types.CType.{CType}
-use Rattle.c_meaning.specs.declared.types.CType.TheVariants.{Void}
-use Rattle.c_meaning.specs.declared.unit.CParam.{CParam}
-use Rattle.c_meaning.specs.Syntax.{Name, FileObject, Function, TranslationUnit}
-use Rattle.c_meaning.specs.Names.{outer_name}
+use Rattle.c_ast.specs.declared.Target.{Target}
+use Rattle.c_ast.specs.declared.CType.{CType}
+use Rattle.c_ast.specs.declared.CType.TheVariants.{Void}
+use Rattle.c_ast.specs.declared.CParam.{CParam}
+use Rattle.c_ast.specs.Syntax.{Name, FileObject, Function, TranslationUnit}
+use Rattle.c_ast.specs.Names.{outer_name}
 use Rattle.c_meaning.specs.Values.{CValue, Num, unsaid}
 use Rattle.c_meaning.specs.State.{Program, CState, seen, leave, in_own_scope}
 use Rattle.c_meaning.specs.Calls.{undefined, Calls, no_functions}

@@ -1,9 +1,9 @@
 -- What a run of C works on: the program, its state, and what the outside sees of it.
 use Rattle.std.specs.Prelude.{List, []}
-use Rattle.iv_base.specs.declared.AreaCells.{AreaCells}
+use Rattle.iv_script.specs.declared.AreaCells.{AreaCells}
 use Rattle.step_semantics.specs.Steps.{Part}
-use Rattle.c_meaning.specs.declared.types.Target.{Target}
-use Rattle.c_meaning.specs.Syntax.{Name, TranslationUnit}
+use Rattle.c_ast.specs.declared.Target.{Target}
+use Rattle.c_ast.specs.Syntax.{Name, TranslationUnit}
 use Rattle.c_meaning.specs.Values.{CValue}
 
 -- what stays the same in a run

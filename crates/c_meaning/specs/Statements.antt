@@ -2,7 +2,7 @@
 use Rattle.std.specs.Prelude.{Option, Some, None}
 use Rattle.step_semantics.specs.Steps.{Part, give, bind, tick, by_state, block}
 use Rattle.step_semantics.specs.Control.{Control, Falls, Broke, Returned, also, forever}
-use Rattle.c_meaning.specs.Syntax.{FunctionCall, Stmt, Const, ConstCall, Object, Assign, If, IfElse, Forever, Break, Return, Block, Call, Stmts, Nil, Cons}
+use Rattle.c_ast.specs.Syntax.{FunctionCall, Stmt, Const, ConstCall, Object, Assign, If, IfElse, Forever, Break, Return, Block, Call, Stmts, Nil, Cons}
 use Rattle.c_meaning.specs.Values.{CValue, unsaid}
 use Rattle.c_meaning.specs.State.{Program, CState, leave}
 use Rattle.c_meaning.specs.Expressions.{eval_all}

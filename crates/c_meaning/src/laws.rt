@@ -1,22 +1,17 @@
 ghost use Rattle.c_meaning.specs.Laws.{RunLaws};
-ghost use Rattle.c_meaning.specs.ValueLaws.{HeldNumbersStay, ConvertedNumbersAreHeld, ConversionExamples, ConstantExamples};
-ghost use Rattle.c_meaning.specs.Examples.{EmptyMain, EmptyMainNeedsAStep, NoCalls, HiddenMain, LedOnce, LedNeedsAStep, LedTwice, LedWraps, LedTruth, LedSigned, LedTooGreat, LedTooGreatLater, Replied, NotReplied, BadlyReplied, Stops, CallsEarlier, CallsEarlierInSteps, CallsItself, EndlessLoop, EndlessLed, LoopLeft, LoopLeftInSteps, Returns, Blocks, Exported};
+ghost use Rattle.c_meaning.specs.ExpressionLaws.{ValuesHaveTheirTypes};
+ghost use Rattle.c_meaning.specs.NumberExamples.{SumExamples, ProductExamples, QuotientExamples, BitExamples, LeftShiftExamples, RightShiftExamples, ComparisonExamples, UnaryExamples};
+ghost use Rattle.c_meaning.specs.ValueExamples.{NameExamples, OrderExamples, CastExamples, ConditionExamples};
+ghost use Rattle.c_meaning.specs.Examples.{EmptyMain, EmptyMainNeedsAStep, NoCalls, HiddenMain, LedOnce, LedNeedsAStep, LedTwice, LedWraps, LedTruth, LedSigned, LedTooGreat, LedTooGreatLater, Replied, NotReplied, BadlyReplied, Stops, CallsEarlier, CallsEarlierInSteps, CallsItself, EndlessLoop, EndlessLed, LoopLeft, LoopLeftInSteps, Returns, Blocks};
 
 /// The outcomes of a run of C: one for each number of steps, whose events only grow, and whose end stays.
 pub fn run_laws()
     ensures { RunLaws }
 {}
 
-/// A conversion keeps a number that the type holds, and gives numbers that it holds.
-pub fn conversion_laws()
-    ensures stay { HeldNumbersStay }
-    ensures held { ConvertedNumbersAreHeld }
-    ensures examples { ConversionExamples }
-{}
-
-/// Which types constants have.
-pub fn constant_examples()
-    ensures { ConstantExamples }
+/// The value of an expression is a number of the type of the expression.
+pub fn type_laws()
+    ensures { ValuesHaveTheirTypes }
 {}
 
 /// What an entry call comes to, and for how many steps.
@@ -64,7 +59,34 @@ pub fn control_examples()
     ensures blocks { Blocks }
 {}
 
-/// What a unit lets the outside call.
-pub fn export_examples()
-    ensures { Exported }
+/// What `+`, `-`, `*`, `/` and `%` give.
+pub fn arithmetic_examples()
+    ensures sums { SumExamples }
+    ensures products { ProductExamples }
+    ensures quotients { QuotientExamples }
+{}
+
+/// What `&`, `|`, `^`, `<<` and `>>` give.
+pub fn bit_examples()
+    ensures bits { BitExamples }
+    ensures left { LeftShiftExamples }
+    ensures right { RightShiftExamples }
+{}
+
+/// What comparisons and the operators on one value give.
+pub fn comparison_examples()
+    ensures comparisons { ComparisonExamples }
+    ensures unary { UnaryExamples }
+{}
+
+/// What is evaluated, and in which order.
+pub fn order_examples()
+    ensures names { NameExamples }
+    ensures order { OrderExamples }
+{}
+
+/// What casts and `?:` give.
+pub fn type_examples()
+    ensures casts { CastExamples }
+    ensures conditions { ConditionExamples }
 {}

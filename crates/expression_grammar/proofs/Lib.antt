@@ -1,0 +1,15 @@
+pub mod Unfold
+pub mod Places
+pub mod Tokens
+pub mod Nodes
+pub mod Filled
+pub mod Primaries
+pub mod Productions
+pub mod Begins
+pub mod Samples
+pub mod Plain
+pub mod Following
+pub mod GoodPrimary
+pub mod GoodOperand
+pub mod Expressions
+pub mod Exactly

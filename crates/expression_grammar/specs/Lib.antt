@@ -1,0 +1,8 @@
+pub mod Tokens
+pub mod Operators
+pub mod Trees
+pub mod Grammar
+pub mod Forms
+pub mod Reader
+pub mod Edges
+pub mod Examples

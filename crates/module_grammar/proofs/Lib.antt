@@ -1,0 +1,17 @@
+pub mod Unfold
+pub mod Terminals
+pub mod Placed
+pub mod Edges
+pub mod TypeRules
+pub mod TypeEdges
+pub mod GoodTypes
+pub mod InitRules
+pub mod GoodInits
+pub mod StatementRules
+pub mod StatementEdges
+pub mod NameFirst
+pub mod GoodStatements
+pub mod PartRules
+pub mod ItemRules
+pub mod GoodItems
+pub mod Exactly

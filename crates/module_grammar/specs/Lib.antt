@@ -1,0 +1,16 @@
+pub mod Tokens
+pub mod Forms
+pub mod Trees
+pub mod Types
+pub mod Inits
+pub mod Statements
+pub mod Parts
+pub mod Items
+pub mod Modules
+pub mod Pieces
+pub mod TypeReader
+pub mod InitReader
+pub mod StatementReader
+pub mod ItemReader
+pub mod Parse
+pub mod Examples

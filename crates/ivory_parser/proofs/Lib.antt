@@ -1,12 +1,1 @@
-pub mod Decimal
-pub mod FirstPiece
-pub mod Cut
-pub mod Refusals
-pub mod Turns
-pub mod Decodes
-pub mod Productions
-pub mod Lists
-pub mod NameTables
-pub mod Sizes
-pub mod Named
-pub mod Laws
+pub mod Parsed

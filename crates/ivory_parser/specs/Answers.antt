@@ -1,22 +1,23 @@
--- What the parts of the reader answer, where memory suffices.
-use Rattle.std.specs.Prelude.{ℕ, ◌^◌, nat_lt, List, ◌++◌, Option, Some, None, Result, Ok, Err, if◌then◌else◌}
-use Rattle.ivory_parser.specs.declared.stop.Stop.{Stop}
-use Rattle.ivory_parser.specs.declared.stop.Stop.TheVariants as stop
+-- What a result of the parser answers: nothing, where memory ran out.
+use Rattle.std.specs.Prelude.{◌≡◌, ℕ, ◌-◌, List, [], length, Option, Some, None, Result, Ok, Err}
+use Rattle.ivory_lexer.specs.declared.Token.{Token}
+use Rattle.ivory_tree.specs.declared.Module.{Module}
+use Rattle.reading.specs.Reader.{Outcome, Done, Unexpected, TooDeep}
+use Rattle.reading.specs.Exact.{Answer, Tree, UnexpectedToken, DeepToken}
+use Rattle.ivory_parser.specs.declared.answer.SyntaxFault.{SyntaxFault}
+use Rattle.ivory_parser.specs.declared.answer.SyntaxFault.TheVariants as fault
 
-abbrev pub OnRefused : Stop → Type 0 → Type 0
-OnRefused stop.Memory P = Unit {0}
-OnRefused stop.Refused P = P
+abbrev pub answer_of : Result Module SyntaxFault → Option (Answer Module)
+answer_of (Ok tree) = Some (Tree tree)
+answer_of (Err (fault.Unexpected i)) = Some (UnexpectedToken i)
+answer_of (Err (fault.TooDeep i)) = Some (DeepToken i)
+answer_of (Err fault.Memory) = None
 
--- a refusal comes only where this holds
-abbrev pub IfRefused : {A : Type 0} → Result A Stop → Type 0 → Type 0
-IfRefused (Ok x) P = Unit {0}
-IfRefused (Err e) P = OnRefused e P
+-- ---- inside
 
--- the number, if it is below 2^64
-abbrev pub below_limit : ℕ → Option ℕ
-below_limit n = if nat_lt n (2 ^ 64) then Some n else None
-
--- a list with more behind it
-abbrev pub added : {A : Type 0} → List A → Option (List A) → Option (List A)
-added old None = None
-added old (Some more) = Some (old ++ more)
+-- the result for what a reader of all these tokens gave
+abbrev pub Ends : Result Module SyntaxFault → List Token → Outcome Token Module → Type 0
+Ends (Ok tree) ts o = o ≡ Done tree []
+Ends (Err fault.Memory) ts o = Unit {0}
+Ends (Err (fault.Unexpected i)) ts o = (rest : List Token) × (o ≡ Unexpected rest) × (i ≡ length ts - length rest)
+Ends (Err (fault.TooDeep i)) ts o = (rest : List Token) × (o ≡ TooDeep rest) × (i ≡ length ts - length rest)

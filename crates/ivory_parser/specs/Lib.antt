@@ -1,10 +1,2 @@
-pub mod Names
-pub mod Valid
-pub mod Pieces
-pub mod Scan
 pub mod Answers
-pub mod Grammar
-pub mod Reader
-pub mod Stands
-pub mod FirstForm
-pub mod Tables
+pub mod Laws

@@ -1,21 +1,16 @@
-//! Reads module texts of the first form: imports with `uint8_t` parameters, then exported procedures that call imports
-//! with numbers.
-//!
-//! A text is cut into tokens by longest match, the tokens are read as a tree by recursive descent, and the tree's names are
-//! resolved by a table. Each step is proved to do what its definition says, and to refuse only where nothing meets that.
+//! Reads the tokens of a module as its tree: recursive descent over slices of tokens, each function as its reader in the
+//! grammar.
 #![tactic(auto)]
 
-mod first;
-mod names;
-mod read;
-mod reading;
-mod resolve;
-mod scanner;
-mod stop;
-#[cfg(test)]
-mod tests;
-mod token;
-mod tree;
+mod answer;
+mod header;
+mod item;
+mod module;
+mod parts;
 
-pub use first::{FirstCall, FirstImport, FirstModule, FirstProc};
-pub use read::{first_form_is_unique, first_form_is_valid, read_first};
+pub use answer::{SyntaxFault, parse};
+pub use ivory_tree::{
+    AreaField, AreaItem, AreaKind, AreaText, BinOp, BitField, BitsItem, Block, CallText, Contract,
+    Expr, ExprKind, Header, InitText, Item, Link, Module, Param, PrefixOp, ProcItem, RefText,
+    RegionText, Step, Stmt, StmtKind, StructItem, TypeKind, TypeText,
+};

@@ -1,0 +1,11 @@
+use Rattle.std.proofs.Common.{ℕ, ◌+◌, ◌*◌}
+use Rattle.statement_parser.proofs.area.+areas.Given as goal
+
+abbrev pub decreases-area_text : goal.decreases-area_text
+decreases-area_text l = 4 * l.depth + 1
+
+abbrev pub decreases-array : goal.decreases-array
+decreases-array l = 4 * l.depth
+
+abbrev pub decreases-array_rest : goal.decreases-array_rest
+decreases-array_rest l = 4 * l.depth + 2

@@ -1,0 +1,16 @@
+//! Reads types, areas, initializers, calls, statements and blocks: recursive descent over slices of tokens, each function as
+//! its reader in the grammar.
+#![tactic(auto)]
+
+mod area;
+mod call;
+mod init;
+mod simple;
+mod stmt;
+mod types;
+
+pub use area::area_text;
+pub use init::first_value;
+pub use simple::{area_and_value, semicolon};
+pub use stmt::block;
+pub use types::{optional_keyword, type_text};

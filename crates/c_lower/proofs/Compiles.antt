@@ -1,10 +1,10 @@
 -- The lowered unit is what the compiler promises, on each target.
 use Rattle.std.proofs.Common.{◌≡◌, sym, subst}
-use Rattle.ivory_parser.specs.declared.FirstModule.{FirstModule}
-use Rattle.ivory_parser.specs.Valid.{Valid}
-use Rattle.c_meaning.specs.declared.Target.{Target}
-use Rattle.c_meaning.specs.declared.Target.TheVariants.{T32}
-use Rattle.c_meaning.specs.Syntax.{TranslationUnit}
+use Rattle.first_form.specs.declared.FirstModule.{FirstModule}
+use Rattle.first_form.specs.Valid.{Valid}
+use Rattle.c_ast.specs.declared.Target.{Target}
+use Rattle.c_ast.specs.declared.Target.TheVariants.{T32}
+use Rattle.c_ast.specs.Syntax.{TranslationUnit}
 use Rattle.c_text.specs.Spelling.{unit_text}
 use Rattle.c_lower.specs.Compiled.{Compiled}
 use Rattle.c_lower.specs.Lowered.{lowered}

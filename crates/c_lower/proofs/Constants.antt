@@ -6,15 +6,15 @@ use Rattle.std.proofs.lemmas.Bool.{le-leb}
 use Rattle.std.proofs.Math.Nat.{mod-eq_of_lt}
 use Rattle.std.proofs.lemmas.List.Elements.{All-head, All-tail}
 use Rattle.iv_base.specs.declared.IntKind.TheVariants.{U8}
-use Rattle.iv_base.specs.declared.Reason.{Reason}
-use Rattle.c_meaning.specs.declared.Target.TheVariants.{T32}
-use Rattle.c_meaning.specs.declared.CScalar.TheVariants.{Int}
-use Rattle.c_meaning.specs.declared.Arith.{Arith}
-use Rattle.c_meaning.specs.declared.Arith.TheVariants.{Int as int}
-use Rattle.c_meaning.specs.declared.CKind.TheVariants.{Scalar, Arith as Computed}
-use Rattle.c_meaning.specs.declared.CType.TheVariants.{Value}
-use Rattle.c_meaning.specs.declared.Suffix.TheVariants.{Plain}
-use Rattle.c_meaning.specs.Syntax.{TranslationUnit}
+use Rattle.iv_script.specs.declared.Reason.{Reason}
+use Rattle.c_ast.specs.declared.Target.TheVariants.{T32}
+use Rattle.c_ast.specs.declared.CScalar.TheVariants.{Int}
+use Rattle.c_ast.specs.declared.Arith.{Arith}
+use Rattle.c_ast.specs.declared.Arith.TheVariants.{Int as int}
+use Rattle.c_ast.specs.declared.CKind.TheVariants.{Scalar, Arith as Computed}
+use Rattle.c_ast.specs.declared.CType.TheVariants.{Value}
+use Rattle.c_ast.specs.declared.Suffix.TheVariants.{Plain}
+use Rattle.c_ast.specs.Syntax.{TranslationUnit}
 use Rattle.c_meaning.specs.Values.{CValue, Num, on_ok, constant_value, as_assigned, as_arguments, of_type}
 use Rattle.c_meaning.specs.State.{Program, CState}
 use Rattle.c_meaning.specs.Expressions.{eval_all}

@@ -4,22 +4,22 @@ use Rattle.std.specs.Prelude.{slice_get, All, AllPairs, replicate, leb, IsSome, 
 use Rattle.std.proofs.lemmas.Bool.{le-leb}
 use Rattle.std.proofs.lemmas.List.Elements.{All-nil, All-head, All-tail, All-cons, All-push}
 use Rattle.iv_base.specs.declared.IntKind.TheVariants.{U8}
-use Rattle.ivory_parser.specs.declared.FirstModule.{FirstModule}
-use Rattle.ivory_parser.specs.declared.FirstImport.{FirstImport}
-use Rattle.ivory_parser.specs.declared.FirstProc.{FirstProc}
-use Rattle.ivory_parser.specs.declared.FirstCall.{FirstCall}
-use Rattle.ivory_parser.specs.Names.{IsName}
-use Rattle.ivory_parser.specs.Valid.{CallFits, Valid}
-use Rattle.c_meaning.specs.declared.CScalar.TheVariants.{Int}
-use Rattle.c_meaning.specs.declared.CType.TheVariants.{Value}
-use Rattle.c_meaning.specs.declared.Target.{Target}
-use Rattle.c_meaning.specs.declared.Target.TheVariants.{T32}
-use Rattle.c_meaning.specs.declared.Arith.{Arith}
-use Rattle.c_meaning.specs.declared.Arith.TheVariants.{Int as int}
-use Rattle.c_meaning.specs.declared.Suffix.TheVariants.{Plain}
-use Rattle.c_meaning.specs.Values.{constant_type}
-use Rattle.c_meaning.specs.Names.{prefixed, stop_name}
-use Rattle.c_meaning.specs.Syntax.{Function}
+use Rattle.first_form.specs.declared.FirstModule.{FirstModule}
+use Rattle.first_form.specs.declared.FirstImport.{FirstImport}
+use Rattle.first_form.specs.declared.FirstProc.{FirstProc}
+use Rattle.first_form.specs.declared.FirstCall.{FirstCall}
+use Rattle.first_form.specs.Names.{IsName}
+use Rattle.first_form.specs.Valid.{CallFits, Valid}
+use Rattle.c_ast.specs.declared.CScalar.TheVariants.{Int}
+use Rattle.c_ast.specs.declared.CType.TheVariants.{Value}
+use Rattle.c_ast.specs.declared.Target.{Target}
+use Rattle.c_ast.specs.declared.Target.TheVariants.{T32}
+use Rattle.c_ast.specs.declared.Arith.{Arith}
+use Rattle.c_ast.specs.declared.Arith.TheVariants.{Int as int}
+use Rattle.c_ast.specs.declared.Suffix.TheVariants.{Plain}
+use Rattle.c_ast.specs.Conversions.{constant_type}
+use Rattle.c_ast.specs.Names.{prefixed, stop_name}
+use Rattle.c_ast.specs.Syntax.{Function}
 use Rattle.c_text.specs.Spelling.{unit_text}
 use Rattle.c_text.specs.Right.{Signature, stop_signature, extern_signature, function_signature, ArgumentsFit, IsNew, Declares, here, there, CallRight, StmtsRight, FunctionsRight, DeclarationsRight, Right}
 use Rattle.c_text.specs.ReadsBack.{ReadsBack}

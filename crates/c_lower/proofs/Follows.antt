@@ -3,8 +3,9 @@ use Rattle.std.proofs.Common.{◌≡◌, ◌≢◌, ℕ, zero, suc, ℤ, ◌<◌
 use Rattle.std.specs.Prelude.{All, IsTrue, if◌then◌else◌, replicate}
 use Rattle.std.proofs.lemmas.List.Elements.{All-head, All-tail}
 use Rattle.iv_base.specs.declared.IntKind.TheVariants.{U8}
-use Rattle.iv_base.specs.declared.Export.{Export}
-use Rattle.iv_base.specs.Scripts.{same_word, export_of, found_fits, values_fit}
+use Rattle.iv_script.specs.declared.Export.{Export}
+use Rattle.iv_base.specs.Words.{same_word}
+use Rattle.iv_script.specs.Scripts.{export_of, found_fits, values_fit}
 use Rattle.step_semantics.specs.Steps.{World, Progress, Part, give, after, bind, tick, left}
 use Rattle.step_semantics.specs.Control.{Control, Falls, Broke, Returned, onward}
 use Rattle.step_semantics.specs.Imports.{import_call}
@@ -14,18 +15,18 @@ use Rattle.step_semantics.proofs.Equations.{after_after}
 use Rattle.step_semantics.proofs.Following.{as_is, eased, rests, both_tick, bound, finished, wrapped}
 use Rattle.step_semantics.proofs.ImportFollows.{import_then_follows}
 use Rattle.step_semantics.proofs.RunFollows.{run_refines}
-use Rattle.ivory_parser.specs.declared.FirstModule.{FirstModule}
-use Rattle.ivory_parser.specs.declared.FirstImport.{FirstImport}
-use Rattle.ivory_parser.specs.declared.FirstProc.{FirstProc}
-use Rattle.ivory_parser.specs.declared.FirstCall.{FirstCall}
-use Rattle.ivory_parser.specs.Valid.{CallFits, Valid}
+use Rattle.first_form.specs.declared.FirstModule.{FirstModule}
+use Rattle.first_form.specs.declared.FirstImport.{FirstImport}
+use Rattle.first_form.specs.declared.FirstProc.{FirstProc}
+use Rattle.first_form.specs.declared.FirstCall.{FirstCall}
+use Rattle.first_form.specs.Valid.{CallFits, Valid}
 use Rattle.core_meaning.specs.Source as source
 use Rattle.core_meaning.proofs.Source.{runs_defined}
-use Rattle.c_meaning.specs.declared.Target.TheVariants.{T32}
-use Rattle.c_meaning.specs.declared.CScalar.TheVariants.{Int}
-use Rattle.c_meaning.specs.declared.CType.TheVariants.{Value}
-use Rattle.c_meaning.specs.Names.{prefixed}
-use Rattle.c_meaning.specs.Syntax.{Function}
+use Rattle.c_ast.specs.declared.Target.TheVariants.{T32}
+use Rattle.c_ast.specs.declared.CScalar.TheVariants.{Int}
+use Rattle.c_ast.specs.declared.CType.TheVariants.{Value}
+use Rattle.c_ast.specs.Names.{prefixed}
+use Rattle.c_ast.specs.Syntax.{Function}
 use Rattle.c_meaning.specs.Values.{CValue, as_arguments}
 use Rattle.c_meaning.specs.State.{Program, CState, seen, leave}
 use Rattle.c_meaning.specs.Expressions.{eval_all}

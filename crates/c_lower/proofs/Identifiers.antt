@@ -2,28 +2,29 @@
 use Rattle.std.proofs.Common.{◌≡◌, ◌≢◌, ℕ, ◌<◌, true, false, List, [], ◌∷◌, length, refl, sym, ◌∙◌, ap, subst, arith}
 use Rattle.std.specs.Prelude.{IsTrue, ◌&&◌, ◌||◌}
 use Rattle.std.specs.List.{list_all}
-use Rattle.iv_base.specs.Scripts.{same_word}
-use Rattle.ivory_parser.specs.Names.{IsName, is_word, is_letter, is_name_byte}
-use Rattle.c_meaning.specs.Names.{prefixed, outer_name, stop_name}
+use Rattle.iv_base.specs.Words.{same_word}
+use Rattle.ivory_lexer.specs.Table.{is_name, begins_name, is_in_name}
+use Rattle.first_form.specs.Names.{IsName}
+use Rattle.c_ast.specs.Names.{prefixed, outer_name, stop_name}
 use Rattle.c_text.specs.Identifiers.{is_digit, is_identifier_byte, IsIdentifier, IsFileName}
 use Rattle.c_lower.proofs.Words.{same_self, not_stop}
 use Rattle.std.proofs.lemmas.Bool.{and_parts}
 
-pub word_spelled : (word : List ℕ) → IsTrue (is_word word) → list_all is_identifier_byte word ≡ true
+pub word_spelled : (word : List ℕ) → IsTrue (is_name word) → list_all is_identifier_byte word ≡ true
 word_spelled [] h = refl
 word_spelled (b ∷ bs) h =
-    let p = and_parts (is_letter b) (list_all is_name_byte bs) h in
+    let p = and_parts (begins_name b) (list_all is_in_name bs) h in
     ap (λ l. (l || is_digit b) && list_all is_identifier_byte bs) p.0 ∙ p.1
 
-pub word_some : (word : List ℕ) → IsTrue (is_word word) → 0 < length word
+pub word_some : (word : List ℕ) → IsTrue (is_name word) → 0 < length word
 word_some [] h = let no : ⊥ = cc in absurd no
 word_some (b ∷ bs) h = omega arith
 
 pub prefixed_identifier : (name : List ℕ) → IsName name → IsIdentifier (prefixed name)
 prefixed_identifier name h = record {
   begins = refl;
-  spelled = word_spelled name h.spelled;
-  short = omega (arith, h.short);
+  spelled = word_spelled name h.0;
+  short = omega (arith, h.1);
   free = refl;
 }
 
@@ -31,7 +32,7 @@ pub prefixed_file_name : (name : List ℕ) → IsName name → IsFileName (prefi
 prefixed_file_name name h = record {
   identifier = prefixed_identifier name h;
   rest = name;
-  some = word_some name h.spelled;
+  some = word_some name h.0;
   with_prefix = refl;
 }
 

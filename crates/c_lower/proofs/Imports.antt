@@ -2,10 +2,10 @@
 use Rattle.std.proofs.Common.{◌≡◌, ◌≢◌, ℕ, zero, suc, Bool, true, cond, List, [], ◌∷◌, ◌++◌, map, Some, ◌∙◌, ap, subst}
 use Rattle.std.specs.Prelude.{slice_get, AllPairs}
 use Rattle.std.specs.List.{find}
-use Rattle.iv_base.specs.Scripts.{same_word}
-use Rattle.ivory_parser.specs.declared.FirstImport.{FirstImport}
-use Rattle.c_meaning.specs.declared.CExtern.{CExtern}
-use Rattle.c_meaning.specs.Names.{prefixed}
+use Rattle.iv_base.specs.Words.{same_word}
+use Rattle.first_form.specs.declared.FirstImport.{FirstImport}
+use Rattle.c_ast.specs.declared.CExtern.{CExtern}
+use Rattle.c_ast.specs.Names.{prefixed}
 use Rattle.c_lower.specs.Shape.{extern_for}
 use Rattle.c_lower.proofs.Lists.{some_is, pairs_head, pairs_tail, at_place}
 use Rattle.c_lower.proofs.Words.{same_self, same_not}

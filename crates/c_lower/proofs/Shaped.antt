@@ -3,14 +3,14 @@ use Rattle.std.proofs.Common.{◌≡◌, List, [], ◌∷◌, ◌++◌, map, ref
 use Rattle.std.specs.Prelude.{All}
 use Rattle.std.specs.List.{AllZip}
 use Rattle.std.proofs.lemmas.List.Elements.{All-nil}
-use Rattle.ivory_parser.specs.declared.FirstModule.{FirstModule}
-use Rattle.ivory_parser.specs.declared.FirstImport.{FirstImport}
-use Rattle.ivory_parser.specs.declared.FirstProc.{FirstProc}
-use Rattle.ivory_parser.specs.declared.FirstCall.{FirstCall}
+use Rattle.first_form.specs.declared.FirstModule.{FirstModule}
+use Rattle.first_form.specs.declared.FirstImport.{FirstImport}
+use Rattle.first_form.specs.declared.FirstProc.{FirstProc}
+use Rattle.first_form.specs.declared.FirstCall.{FirstCall}
 use Rattle.core_meaning.specs.Source.{export_for, exports_of}
-use Rattle.c_meaning.specs.Names.{prefixed}
-use Rattle.c_meaning.specs.Syntax.{Function, TranslationUnit}
-use Rattle.c_meaning.specs.Exports.{exports_by, export_as, exports_among, c_exports, plain_params, plain_result}
+use Rattle.c_ast.specs.Names.{prefixed}
+use Rattle.c_ast.specs.Syntax.{Function, TranslationUnit}
+use Rattle.c_ast.specs.Exports.{exports_by, export_as, exports_among, c_exports, plain_params, plain_result}
 use Rattle.c_lower.specs.Shape.{stmts_names, IsTemporary, FunctionFor, Shape}
 use Rattle.c_lower.specs.Lowered.{body_for, function_for, lowered}
 

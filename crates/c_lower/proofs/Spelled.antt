@@ -3,15 +3,15 @@ use Rattle.std.proofs.Common.{ℕ, zero, suc, ◌<◌, ◌^◌, List, [], ◌∷
 use Rattle.std.specs.Prelude.{slice_get, All, replicate}
 use Rattle.std.proofs.lemmas.List.Elements.{All-nil, All-head, All-tail, All-cons}
 use Rattle.iv_base.specs.declared.IntKind.TheVariants.{U8}
-use Rattle.ivory_parser.specs.declared.FirstModule.{FirstModule}
-use Rattle.ivory_parser.specs.declared.FirstImport.{FirstImport}
-use Rattle.ivory_parser.specs.declared.FirstProc.{FirstProc}
-use Rattle.ivory_parser.specs.declared.FirstCall.{FirstCall}
-use Rattle.ivory_parser.specs.Names.{IsName}
-use Rattle.ivory_parser.specs.Valid.{CallFits, Valid}
-use Rattle.c_meaning.specs.declared.CScalar.TheVariants.{Int}
-use Rattle.c_meaning.specs.declared.CType.TheVariants.{Value}
-use Rattle.c_meaning.specs.Names.{prefixed}
+use Rattle.first_form.specs.declared.FirstModule.{FirstModule}
+use Rattle.first_form.specs.declared.FirstImport.{FirstImport}
+use Rattle.first_form.specs.declared.FirstProc.{FirstProc}
+use Rattle.first_form.specs.declared.FirstCall.{FirstCall}
+use Rattle.first_form.specs.Names.{IsName}
+use Rattle.first_form.specs.Valid.{CallFits, Valid}
+use Rattle.c_ast.specs.declared.CScalar.TheVariants.{Int}
+use Rattle.c_ast.specs.declared.CType.TheVariants.{Value}
+use Rattle.c_ast.specs.Names.{prefixed}
 use Rattle.c_text.specs.Identifiers.{IsIdentifier}
 use Rattle.c_text.specs.Subset.{IsScalar, ExprInSubset, CallInSubset, StmtsInSubset, ExternInSubset, FunctionInSubset, InSubset}
 use Rattle.c_lower.specs.Shape.{extern_for}

@@ -1,10 +1,10 @@
 -- What the compiler promises of a module's unit: its shape, that it does what the module does, and that some text reads back as it.
 use Rattle.std.specs.Prelude.{◌≡◌, ℕ, List}
-use Rattle.ivory_parser.specs.declared.FirstModule.{FirstModule}
-use Rattle.c_meaning.specs.declared.Target.{Target}
-use Rattle.c_meaning.specs.Syntax.{TranslationUnit}
+use Rattle.first_form.specs.declared.FirstModule.{FirstModule}
+use Rattle.c_ast.specs.declared.Target.{Target}
+use Rattle.c_ast.specs.Syntax.{TranslationUnit}
 use Rattle.core_meaning.specs.Source.{exports_of}
-use Rattle.c_meaning.specs.Exports.{c_exports}
+use Rattle.c_ast.specs.Exports.{c_exports}
 use Rattle.c_text.specs.ReadsBack.{ReadsBack}
 use Rattle.c_lower.specs.Shape.{Shape}
 use Rattle.c_lower.specs.Refines.{Refines}

@@ -1,14 +1,14 @@
 -- The unit that the compiler makes: each import becomes an extern, and each procedure a function with a call for each of its calls.
 use Rattle.std.specs.Prelude.{ℕ, List, [], map, Option, Some, None, slice_get, false}
-use Rattle.ivory_parser.specs.declared.FirstModule.{FirstModule}
-use Rattle.ivory_parser.specs.declared.FirstImport.{FirstImport}
-use Rattle.ivory_parser.specs.declared.FirstProc.{FirstProc}
-use Rattle.ivory_parser.specs.declared.FirstCall.{FirstCall}
-use Rattle.c_meaning.specs.declared.CType.TheVariants.{Void}
-use Rattle.c_meaning.specs.declared.Suffix.TheVariants.{Plain}
-use Rattle.c_meaning.specs.Names.{prefixed}
-use Rattle.c_meaning.specs.Syntax.{Name, Expr, Number, Stmt, Call, Stmts, Function, TranslationUnit}
-use Rattle.c_meaning.specs.View.{stmts_from}
+use Rattle.first_form.specs.declared.FirstModule.{FirstModule}
+use Rattle.first_form.specs.declared.FirstImport.{FirstImport}
+use Rattle.first_form.specs.declared.FirstProc.{FirstProc}
+use Rattle.first_form.specs.declared.FirstCall.{FirstCall}
+use Rattle.c_ast.specs.declared.CType.TheVariants.{Void}
+use Rattle.c_ast.specs.declared.Suffix.TheVariants.{Plain}
+use Rattle.c_ast.specs.Names.{prefixed}
+use Rattle.c_ast.specs.Syntax.{Name, Expr, Number, Stmt, Call, Stmts, Function, TranslationUnit}
+use Rattle.c_ast.specs.View.{stmts_from}
 use Rattle.c_lower.specs.Shape.{extern_for}
 
 -- a value of uint8_t is an int constant

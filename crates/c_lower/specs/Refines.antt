@@ -1,12 +1,12 @@
 -- The unit does what the module does, for every script that fits it: within the same number of steps the C shows nothing that the
 -- source does not, within 16n+16 steps all that the source shows within n, both end alike, and the C is never undefined.
-use Rattle.iv_base.specs.declared.Script.{Script}
-use Rattle.iv_base.specs.Scripts.{Fits}
+use Rattle.iv_script.specs.declared.Script.{Script}
+use Rattle.iv_script.specs.Scripts.{Fits}
 use Rattle.step_semantics.specs.Refines as runs
-use Rattle.ivory_parser.specs.declared.FirstModule.{FirstModule}
+use Rattle.first_form.specs.declared.FirstModule.{FirstModule}
 use Rattle.core_meaning.specs.Source.{run_src, exports_of}
-use Rattle.c_meaning.specs.declared.Target.{Target}
-use Rattle.c_meaning.specs.Syntax.{TranslationUnit}
+use Rattle.c_ast.specs.declared.Target.{Target}
+use Rattle.c_ast.specs.Syntax.{TranslationUnit}
 use Rattle.c_meaning.specs.Runs.{run_c}
 
 abbrev pub Refines : FirstModule → TranslationUnit → Target → Type 0

@@ -2,14 +2,14 @@
 use Rattle.std.specs.Prelude.{◌≡◌, List, [], ◌∷◌, ◌++◌, map, replicate, codes, false, All}
 use Rattle.std.specs.List.{AllZip}
 use Rattle.iv_base.specs.declared.IntKind.TheVariants.{U8}
-use Rattle.ivory_parser.specs.declared.FirstModule.{FirstModule}
-use Rattle.ivory_parser.specs.declared.FirstImport.{FirstImport}
-use Rattle.ivory_parser.specs.declared.FirstProc.{FirstProc}
-use Rattle.c_meaning.specs.declared.CScalar.TheVariants.{Int}
-use Rattle.c_meaning.specs.declared.CType.TheVariants.{Void, Value}
-use Rattle.c_meaning.specs.declared.CExtern.{CExtern}
-use Rattle.c_meaning.specs.Names.{prefixed}
-use Rattle.c_meaning.specs.Syntax.{Name, Stmt, Const, ConstCall, Object, Assign, If, IfElse, Forever, Break, Return, Block, Call, Stmts, Nil, Cons, Function, TranslationUnit}
+use Rattle.first_form.specs.declared.FirstModule.{FirstModule}
+use Rattle.first_form.specs.declared.FirstImport.{FirstImport}
+use Rattle.first_form.specs.declared.FirstProc.{FirstProc}
+use Rattle.c_ast.specs.declared.CScalar.TheVariants.{Int}
+use Rattle.c_ast.specs.declared.CType.TheVariants.{Void, Value}
+use Rattle.c_ast.specs.declared.CExtern.{CExtern}
+use Rattle.c_ast.specs.Names.{prefixed}
+use Rattle.c_ast.specs.Syntax.{Name, Stmt, Const, ConstCall, Object, Assign, If, IfElse, Forever, Break, Return, Block, Call, Stmts, Nil, Cons, Function, TranslationUnit}
 
 -- an import: `extern void iv_NAME(uint8_t, ..);`
 abbrev pub extern_for : FirstImport → CExtern

@@ -1,14 +1,14 @@
 ghost use Rattle.std.specs.Prelude.{◌≡◌, IfOk};
-ghost use Rattle.ivory_parser.specs.Valid.{Valid};
-ghost use Rattle.c_meaning.specs.View.{unit_of};
+ghost use Rattle.first_form.specs.Valid.{Valid};
+ghost use Rattle.c_ast.specs.View.{unit_of};
 ghost use Rattle.c_lower.specs.Compiled.{Compiled, ExportsAgree};
 ghost use Rattle.c_lower.specs.Lowered as spec;
 
 use crate::import::externs_for;
 use crate::procedure::functions_for;
-use c_meaning::{CUnit, Target};
+use c_ast::{CUnit, Target};
+use first_form::FirstModule;
 use iv_base::{Memory, Seq};
-use ivory_parser::FirstModule;
 use std::alloc::Global;
 
 /// The unit with an `extern` for each import and a function for each procedure.

@@ -1,5 +1,5 @@
 ghost use Rattle.std.specs.Prelude.{◌≡◌, IfOk};
-ghost use Rattle.c_meaning.specs.Names.{prefixed};
+ghost use Rattle.c_ast.specs.Names.{prefixed};
 
 use iv_base::{Memory, Word};
 use std::alloc::Global;

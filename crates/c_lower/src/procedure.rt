@@ -1,12 +1,12 @@
 ghost use Rattle.std.specs.Prelude.{◌≡◌, IfOk, map, slice_get};
-ghost use Rattle.c_meaning.specs.Names.{prefixed};
-ghost use Rattle.c_meaning.specs.View.{expr_of, stmt_of, function_of};
+ghost use Rattle.c_ast.specs.Names.{prefixed};
+ghost use Rattle.c_ast.specs.View.{expr_of, stmt_of, function_of};
 ghost use Rattle.c_lower.specs.Lowered as lowered;
 
 use crate::name::prefixed_name;
-use c_meaning::{CCall, CExpr, CFunction, CStmt, CType, Suffix};
+use c_ast::{CCall, CExpr, CFunction, CStmt, CType, Suffix};
+use first_form::{FirstCall, FirstImport, FirstProc};
 use iv_base::{Memory, Seq, Word};
-use ivory_parser::{FirstCall, FirstImport, FirstProc};
 use std::alloc::Global;
 
 /// The values of a call as constants.

@@ -2,8 +2,9 @@
 use Rattle.std.proofs.Common.{ℕ, ℤ, Bool, true, false, List, [], ◌∷◌, map, Option, Some, None, sym, subst}
 use Rattle.std.specs.Prelude.{slice_get, IsTrue, if◌then◌else◌, All}
 use Rattle.std.proofs.lemmas.List.Elements.{All-head, All-tail}
-use Rattle.iv_base.specs.declared.Export.{Export}
-use Rattle.iv_base.specs.Scripts.{same_word, export_of, found_fits}
+use Rattle.iv_script.specs.declared.Export.{Export}
+use Rattle.iv_base.specs.Words.{same_word}
+use Rattle.iv_script.specs.Scripts.{export_of, found_fits}
 use Rattle.step_semantics.specs.Control.{Falls}
 use Rattle.step_semantics.specs.Lawful.{Lawful}
 use Rattle.step_semantics.specs.Safe.{AlwaysSafe}
@@ -11,10 +12,10 @@ use Rattle.step_semantics.proofs.Laws.{give_lawful, halt_lawful, bind_lawful, ti
 use Rattle.step_semantics.proofs.ControlLaws.{also_lawful}
 use Rattle.step_semantics.proofs.RunLaws.{import_call_lawful, run_outcomes}
 use Rattle.step_semantics.proofs.Safety.{give_safe, tick_safe, bind_safe, also_safe, import_call_safe, run_never_undefined}
-use Rattle.ivory_parser.specs.declared.FirstImport.{FirstImport}
-use Rattle.ivory_parser.specs.declared.FirstProc.{FirstProc}
-use Rattle.ivory_parser.specs.declared.FirstCall.{FirstCall}
-use Rattle.ivory_parser.specs.Valid.{CallFits}
+use Rattle.first_form.specs.declared.FirstImport.{FirstImport}
+use Rattle.first_form.specs.declared.FirstProc.{FirstProc}
+use Rattle.first_form.specs.declared.FirstCall.{FirstCall}
+use Rattle.first_form.specs.Valid.{CallFits}
 use Rattle.core_meaning.specs.Source.{observed, export_for, call_of, exec, execs, entered, enter, proc_of}
 use Rattle.core_meaning.specs.Laws.{RunsObeyTheirLaws, RunsAreDefined}
 

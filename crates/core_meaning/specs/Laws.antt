@@ -1,17 +1,17 @@
 -- The laws of the source's runs.
 use Rattle.std.specs.Prelude.{◌≡◌, ℕ, pos, List, [], ◌∷◌, None, codes}
-use Rattle.iv_base.specs.declared.End.{End}
-use Rattle.iv_base.specs.declared.End.TheVariants.{Ended, Going}
-use Rattle.iv_base.specs.declared.Event.{Event}
-use Rattle.iv_base.specs.declared.Event.TheVariants.{Call, Ret}
-use Rattle.iv_base.specs.declared.Piece.TheVariants.{Value}
-use Rattle.iv_base.specs.declared.Outcome.{Outcome}
-use Rattle.iv_base.specs.declared.Script.{Script}
-use Rattle.iv_base.specs.Scripts.{Fits}
+use Rattle.iv_script.specs.declared.End.{End}
+use Rattle.iv_script.specs.declared.End.TheVariants.{Ended, Going}
+use Rattle.iv_script.specs.declared.Event.{Event}
+use Rattle.iv_script.specs.declared.Event.TheVariants.{Call, Ret}
+use Rattle.iv_script.specs.declared.Piece.TheVariants.{Value}
+use Rattle.iv_script.specs.declared.Outcome.{Outcome}
+use Rattle.iv_script.specs.declared.Script.{Script}
+use Rattle.iv_script.specs.Scripts.{Fits}
 use Rattle.step_semantics.specs.Outcomes.{OutcomeLaws}
 use Rattle.step_semantics.specs.Safe.{NeverUndefined}
-use Rattle.ivory_parser.specs.declared.FirstModule.{FirstModule}
-use Rattle.ivory_parser.specs.Valid.{Valid}
+use Rattle.first_form.specs.declared.FirstModule.{FirstModule}
+use Rattle.first_form.specs.Valid.{Valid}
 use Rattle.core_meaning.specs.Source.{run_src, exports_of}
 
 abbrev pub RunsObeyTheirLaws : Type 0

@@ -1,22 +1,22 @@
 -- What a module does, step for step. So far a module has imports without results, and exported procedures without parameters,
 -- whose statements are calls of imports with constants. It has no areas and no names, so a state holds nothing.
 use Rattle.std.specs.Prelude.{ℕ, ℤ, pos, List, [], ◌∷◌, map, Option, Some, None, slice_get, if◌then◌else◌}
-use Rattle.iv_base.specs.declared.Reason.TheVariants.{Dead}
-use Rattle.iv_base.specs.declared.AreaCells.{AreaCells}
-use Rattle.iv_base.specs.declared.Piece.{Piece}
-use Rattle.iv_base.specs.declared.Piece.TheVariants.{Value}
-use Rattle.iv_base.specs.declared.Export.{Export}
-use Rattle.iv_base.specs.declared.Outcome.{Outcome}
-use Rattle.iv_base.specs.declared.Script.{Script}
-use Rattle.iv_base.specs.Scripts.{same_word}
+use Rattle.iv_script.specs.declared.Reason.TheVariants.{Dead}
+use Rattle.iv_script.specs.declared.AreaCells.{AreaCells}
+use Rattle.iv_script.specs.declared.Piece.{Piece}
+use Rattle.iv_script.specs.declared.Piece.TheVariants.{Value}
+use Rattle.iv_script.specs.declared.Export.{Export}
+use Rattle.iv_script.specs.declared.Outcome.{Outcome}
+use Rattle.iv_script.specs.declared.Script.{Script}
+use Rattle.iv_base.specs.Words.{same_word}
 use Rattle.step_semantics.specs.Steps.{NoMeaning, Part, give, halt, bind, tick}
 use Rattle.step_semantics.specs.Control.{Control, Falls, Broke, Returned, also}
 use Rattle.step_semantics.specs.Imports.{import_call}
 use Rattle.step_semantics.specs.Runs.{Body, run}
-use Rattle.ivory_parser.specs.declared.FirstModule.{FirstModule}
-use Rattle.ivory_parser.specs.declared.FirstImport.{FirstImport}
-use Rattle.ivory_parser.specs.declared.FirstProc.{FirstProc}
-use Rattle.ivory_parser.specs.declared.FirstCall.{FirstCall}
+use Rattle.first_form.specs.declared.FirstModule.{FirstModule}
+use Rattle.first_form.specs.declared.FirstImport.{FirstImport}
+use Rattle.first_form.specs.declared.FirstProc.{FirstProc}
+use Rattle.first_form.specs.declared.FirstCall.{FirstCall}
 
 abbrev pub State : Type 0
 State = Unit {0}

@@ -1,7 +1,7 @@
 use Rattle.std.proofs.Common.{◌≡◌, replicate}
 use Rattle.iv_base.specs.declared.IntKind.TheVariants.{U8}
-use Rattle.c_meaning.specs.declared.CScalar.TheVariants.{Int}
-use Rattle.c_meaning.specs.declared.CType.TheVariants.{Value}
+use Rattle.c_ast.specs.declared.CScalar.TheVariants.{Int}
+use Rattle.c_ast.specs.declared.CType.TheVariants.{Value}
 use Rattle.c_lower.proofs.import.parameters.Given as goal
 
 abbrev pub invariant-loop-done : goal.invariant-loop-done

@@ -1,6 +1,6 @@
 use Rattle.std.proofs.Common.{◌≡◌}
 use Rattle.std.proofs.lemmas.Result.{IfOk-weaker}
-use Rattle.c_meaning.specs.View.{unit_of}
+use Rattle.c_ast.specs.View.{unit_of}
 use Rattle.c_lower.specs.Compiled.{Compiled}
 use Rattle.c_lower.specs.Lowered.{lowered}
 use Rattle.c_lower.proofs.Compiles.{compiled}

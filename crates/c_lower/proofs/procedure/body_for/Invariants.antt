@@ -1,5 +1,5 @@
 use Rattle.std.proofs.Common.{◌≡◌, map, take}
-use Rattle.c_meaning.specs.View.{stmt_of}
+use Rattle.c_ast.specs.View.{stmt_of}
 use Rattle.c_lower.specs.Lowered.{call_for}
 use Rattle.c_lower.proofs.procedure.body_for.Given as goal
 

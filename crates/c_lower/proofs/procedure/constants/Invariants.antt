@@ -1,5 +1,5 @@
 use Rattle.std.proofs.Common.{◌≡◌, map, take}
-use Rattle.c_meaning.specs.View.{expr_of}
+use Rattle.c_ast.specs.View.{expr_of}
 use Rattle.c_lower.specs.Lowered.{constant_for}
 use Rattle.c_lower.proofs.procedure.constants.Given as goal
 

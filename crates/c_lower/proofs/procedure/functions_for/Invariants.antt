@@ -1,5 +1,5 @@
 use Rattle.std.proofs.Common.{◌≡◌, map, take}
-use Rattle.c_meaning.specs.View.{function_of}
+use Rattle.c_ast.specs.View.{function_of}
 use Rattle.c_lower.specs.Lowered.{function_for}
 use Rattle.c_lower.proofs.procedure.functions_for.Given as goal
 

@@ -1,0 +1,13 @@
+pub mod Refusals
+pub mod Lists
+pub mod NameTables
+pub mod Params
+pub mod Views
+pub mod Few
+pub mod Headers
+pub mod Calls
+pub mod Bodies
+pub mod Split
+pub mod Agree
+pub mod Sound
+pub mod Whole

@@ -1,0 +1,7 @@
+pub mod Names
+pub mod Valid
+pub mod Stands
+pub mod Laws
+pub mod Answers
+pub mod Parts
+pub mod Tables

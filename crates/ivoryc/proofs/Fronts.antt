@@ -1,19 +1,13 @@
--- A store gives a front of a text, one byte longer than a text of the first form can be: so the front is of that form exactly where
--- the whole text is.
+-- A store gives a front of a text, one byte longer than a module's text can be: so what is said of the front is true of the whole.
 use Rattle.std.proofs.Common.{◌≡◌, ℕ, ◌+◌, ◌≤◌, List, [], length, take, Option, Some, None, refl, sym, ◌∙◌, ap, subst, arith}
 use Rattle.std.proofs.lemmas.List.{take_all, length-take}
 use Rattle.iv_base.specs.Stores.{FileMap, text_of, Gives}
-use Rattle.ivory_parser.specs.declared.FirstModule.{FirstModule}
-use Rattle.ivory_parser.specs.FirstForm.{FirstForm}
 use Rattle.ivoryc.specs.Calls.{StandsUnder}
-use Rattle.ivoryc.specs.Promise.{IsNoFirstForm}
+use Rattle.module_text.specs.Verdicts.{Verdict, Judged, too_long, not_cut, unexpected, too_deep, reads}
 
 pub some_text : (holds : Option FileMap) (file : List ℕ) → (text : List ℕ) × StandsUnder holds file text
 some_text None file = ([], tt)
 some_text (Some files) file = (text_of (files file), refl)
-
-pub is_short : (text : List ℕ) (core : FirstModule) → FirstForm text core → length text ≤ 262144
-is_short text core form = form.short
 
 -- a front that is shorter than it may be is the whole
 short_front : (most : ℕ) (front text : List ℕ) → front ≡ take (most + 1) text → length front ≤ most → front ≡ text
@@ -22,31 +16,26 @@ short_front most front text is short =
     let l = length-take (most + 1) text in
     is ∙ take_all (most + 1) text (omega arith)
 
--- a short text is its own front
-front_of_short : (most : ℕ) (front text : List ℕ) → front ≡ take (most + 1) text → length text ≤ most → front ≡ text
-front_of_short most front text is short = is ∙ take_all (most + 1) text (omega arith)
+-- a short front with its verdict
+whole : (front text : List ℕ) (v : Verdict) → front ≡ take (262144 + 1) text → length front ≤ 262144 → Judged front v → Judged text v
+whole front text v is short j = let Says : List ℕ → Type 0 = λ t. Judged t v in subst Says (short_front 262144 front text is short) j
 
--- the front is of the first form: it is the whole text
-pub form_stands : (holds : Option FileMap) (file front : List ℕ) (core : FirstModule) → Gives holds file 262144 front → FirstForm front core
-    → StandsUnder holds file front
-form_stands None file front core gives form = tt
-form_stands (Some files) file front core gives form = short_front 262144 front (text_of (files file)) gives (is_short front core form)
+of_front : (front text : List ℕ) (v : Verdict) → front ≡ take (262144 + 1) text → Judged front v → Judged text v
+of_front front text v is (too_long long) =
+    let e : length front ≡ length (take (262144 + 1) text) = ap length is in
+    let l = length-take (262144 + 1) text in
+    too_long (omega arith)
+of_front front text v is (not_cut short fault line) = whole front text _ is short (not_cut short fault line)
+of_front front text v is (unexpected short cut at none) = whole front text _ is short (unexpected short cut at none)
+of_front front text v is (too_deep short cut at) = whole front text _ is short (too_deep short cut at)
+of_front front text v is (reads short cut spelled) = whole front text _ is short (reads short cut spelled)
 
--- some text stands under the name, and it is of no such form
-pub record NoFormStands (holds : Option FileMap) (file : List ℕ) : Type 0 where
+-- some text stands under the name, of which this is true
+pub record VerdictStands (holds : Option FileMap) (file : List ℕ) (v : Verdict) : Type 0 where
   pub text : List ℕ
   pub stands : StandsUnder holds file text
-  pub form : IsNoFirstForm text
+  pub judged : Judged text v
 
--- the front is of no such form: the whole text is not either
-pub no_form_stands : (holds : Option FileMap) (file front : List ℕ) → Gives holds file 262144 front → IsNoFirstForm front → NoFormStands holds file
-no_form_stands None file front gives none = record { text = front; stands = tt; form = none }
-no_form_stands (Some files) file front gives none =
-    record {
-      text = text_of (files file);
-      stands = refl;
-      form = λ core form.
-          let whole = front_of_short 262144 front (text_of (files file)) gives (is_short (text_of (files file)) core form) in
-          let Form : List ℕ → Type 0 = λ t. FirstForm t core in
-          none core (subst Form (sym whole) form);
-    }
+pub verdict_stands : (holds : Option FileMap) (file front : List ℕ) (v : Verdict) → Gives holds file 262144 front → Judged front v → VerdictStands holds file v
+verdict_stands None file front v gives j = record { text = front; stands = tt; judged = j }
+verdict_stands (Some files) file front v gives j = record { text = text_of (files file); stands = refl; judged = of_front front (text_of (files file)) v gives j }

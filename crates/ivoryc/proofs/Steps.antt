@@ -1,9 +1,9 @@
 -- The answers of the steps of a call make up what the call promises.
 use Rattle.std.proofs.Common.{◌≡◌, ℕ, List, Some, None, Result, Ok, Err, refl, sym, ap, subst, inl, inr, arith}
 use Rattle.iv_base.specs.Stores.{Gives}
-use Rattle.c_meaning.specs.declared.CUnit.{CUnit}
-use Rattle.c_meaning.specs.declared.Target.TheVariants.{T32}
-use Rattle.c_meaning.specs.View.{unit_of}
+use Rattle.c_ast.specs.declared.CUnit.{CUnit}
+use Rattle.c_ast.specs.declared.Target.TheVariants.{T32}
+use Rattle.c_ast.specs.View.{unit_of}
 use Rattle.c_text.specs.Spelling.{unit_text}
 use Rattle.c_text.proofs.Unique.{one_unit}
 use Rattle.c_text.specs.ReadsBack.{ReadsBack}
@@ -13,12 +13,14 @@ use Rattle.ivoryc.specs.declared.refusal.Refusal.TheVariants as refusal
 use Rattle.ivoryc.specs.declared.status.Status.{Status}
 use Rattle.ivoryc.specs.declared.status.Status.TheVariants as status
 use Rattle.ivoryc.specs.Commands.{command}
-use Rattle.ivoryc.specs.Texts.{usage_line, read_fault_line, not_built_line}
+use Rattle.ivoryc.specs.Texts.{usage_line, read_fault_line, too_large_line, not_built_line}
+use Rattle.module_text.specs.Lines.{fault_line}
+use Rattle.module_text.specs.Verdicts.{Verdict, TooLong, Faulty, Reads, Judged}
 use Rattle.ivoryc.specs.Calls.{StoreSeen, SinkSeen, Change, Call, Unchanged, Took, FailedAt}
-use Rattle.ivoryc.specs.Promise.{IsCompiled, IsNoFirstForm, Emits, Due, IsAnswered, Promise}
-use Rattle.ivoryc.specs.Steps.{LoadsAtMostOnce, IsUnitOf, Made, Written, HasText, Emitted, Ran, Tells, Reported}
+use Rattle.ivoryc.specs.Promise.{FirstForm, IsCompiled, Emits, Due, IsAnswered, Promise}
+use Rattle.ivoryc.specs.Steps.{LoadsAtMostOnce, IsUnitOf, Made, Written, HasText, IsJudged, Emitted, Ran, Tells, Reported}
 use Rattle.ivoryc.proofs.Answered.{promise_from}
-use Rattle.ivoryc.proofs.Fronts.{some_text, form_stands, no_form_stands}
+use Rattle.ivoryc.proofs.Fronts.{some_text, verdict_stands}
 
 -- ---- the parts of `emit`
 
@@ -36,27 +38,37 @@ is_compiled text u is =
       only = λ v spells. one_unit v (unit_of u) spells.in_subset is.compiled.reads_back.spelled.in_subset (sym spells.is);
     }
 
-pub emitted_unmade : (file text seen : List ℕ) (store : Change StoreSeen) (out : Change SinkSeen) (r : Refusal) → Gives store.before.holds file 262144 text
-    → seen ≡ text → Made seen (Err r) → Unchanged out → Emitted file store out (Err r)
-emitted_unmade file text seen store out refusal.Words gives is made same = absurd made
-emitted_unmade file text seen store out refusal.ReadFault gives is made same = absurd made
-emitted_unmade file text seen store out refusal.WriteFault gives is made same = absurd made
-emitted_unmade file text seen store out refusal.Memory gives is made same = same
-emitted_unmade file text seen store out refusal.NotBuilt gives is made same =
-    let NoForm : List ℕ → Type 0 = λ t. IsNoFirstForm t in
-    let found = no_form_stands store.before.holds file text gives (subst NoForm is made) in
-    record { text = found.text; stands = found.stands; form = found.form; out = same }
+judged_so : (file front seen : List ℕ) (store : Change StoreSeen) (out : Change SinkSeen) (v : Verdict) → Gives store.before.holds file 262144 front
+    → seen ≡ front → Judged seen v → Unchanged out → IsJudged v file store out
+judged_so file front seen store out v gives is j same =
+    let Says : List ℕ → Type 0 = λ t. Judged t v in
+    let found = verdict_stands store.before.holds file front v gives (subst Says is j) in
+    record { text = found.text; stands = found.stands; judged = found.judged; out = same }
 
-has_text : (file text seen : List ℕ) (store : Change StoreSeen) (u : CUnit) → Gives store.before.holds file 262144 text → seen ≡ text → IsUnitOf seen u
+pub emitted_unmade : (file front seen : List ℕ) (store : Change StoreSeen) (out : Change SinkSeen) (r : Refusal) → Gives store.before.holds file 262144 front
+    → seen ≡ front → Made seen (Err r) → Unchanged out → Emitted file store out (Err r)
+emitted_unmade file front seen store out refusal.Words gives is made same = absurd made
+emitted_unmade file front seen store out refusal.ReadFault gives is made same = absurd made
+emitted_unmade file front seen store out refusal.WriteFault gives is made same = absurd made
+emitted_unmade file front seen store out refusal.Memory gives is made same = same
+emitted_unmade file front seen store out refusal.TooLarge gives is made same = judged_so file front seen store out TooLong gives is made same
+emitted_unmade file front seen store out (refusal.Fault f) gives is made same = judged_so file front seen store out (Faulty (fault_line f)) gives is made same
+emitted_unmade file front seen store out refusal.NotBuilt gives is made same =
+    let Says : List ℕ → Type 0 = λ t. Judged t (Reads made.tree) in
+    let found = verdict_stands store.before.holds file front (Reads made.tree) gives (subst Says is made.read) in
+    record { text = found.text; stands = found.stands; unbuilt = record { tree = made.tree; read = found.judged; none = made.none }; out = same }
+
+has_text : (file front seen : List ℕ) (store : Change StoreSeen) (u : CUnit) → Gives store.before.holds file 262144 front → seen ≡ front → IsUnitOf seen u
     → (has : HasText file store) × (has.bytes ≡ unit_text (unit_of u))
-has_text file text seen store u gives same is =
-    let Of : List ℕ → Type 0 = λ t. IsUnitOf t u in
-    let of : IsUnitOf text u = subst Of same is in (
+has_text file front seen store u gives same is =
+    let Says : List ℕ → Type 0 = λ t. Judged t (Reads is.form.tree) in
+    let found = verdict_stands store.before.holds file front (Reads is.form.tree) gives (subst Says same is.form.read) in
+    let form : FirstForm found.text is.core = record { tree = is.form.tree; read = found.judged; stands = is.form.stands } in (
       record {
-        text = text;
-        stands = form_stands store.before.holds file text of.core gives of.form;
+        text = found.text;
+        stands = found.stands;
         bytes = unit_text (unit_of u);
-        compiled = is_compiled text u of;
+        compiled = is_compiled found.text u (record { core = is.core; form = form; compiled = is.compiled });
       },
       refl,
     )
@@ -74,6 +86,8 @@ emitted_written file text seen store out u (Err refusal.WriteFault) gives same i
     let Fails : List ℕ → Type 0 = λ bytes. FailedAt out bytes in
     record { has = found.0; out = subst Fails (sym found.1) written }
 emitted_written file text seen store out u (Err refusal.Memory) gives same is written = absurd written
+emitted_written file text seen store out u (Err refusal.TooLarge) gives same is written = absurd written
+emitted_written file text seen store out u (Err (refusal.Fault f)) gives same is written = absurd written
 emitted_written file text seen store out u (Err refusal.NotBuilt) gives same is written = absurd written
 
 -- ---- from a command's answer to the call's
@@ -115,9 +129,16 @@ emit_answered c (Err refusal.WriteFault) file asked e (is, err) =
     (inl
     (record { emits = record { file = file; asked = asked; text = e.has.text; stands = e.has.stands }; bytes = e.has.bytes; compiled = e.has.compiled; out = e.out; err = err }))
 emit_answered c (Err refusal.Memory) file asked e ends = memory_answered c e ends
+emit_answered c (Err refusal.TooLarge) file asked e ends =
+    let emits : Emits c = record { file = file; asked = asked; text = e.text; stands = e.stands } in
+    told c too_large_line status.TooLarge (Due.too_large emits e.judged) e.out ends (λ took. record { emits = emits; long = e.judged; out = e.out; err = took })
+emit_answered c (Err (refusal.Fault f)) file asked e ends =
+    let emits : Emits c = record { file = file; asked = asked; text = e.text; stands = e.stands } in
+    told c (fault_line f) status.Refused (Due.refused emits e.judged) e.out ends
+    (λ took. record { emits = emits; line = fault_line f; faulty = e.judged; out = e.out; err = took })
 emit_answered c (Err refusal.NotBuilt) file asked e ends =
     let emits : Emits c = record { file = file; asked = asked; text = e.text; stands = e.stands } in
-    told c not_built_line status.NotBuilt (Due.not_built emits e.form) e.out ends (λ took. record { emits = emits; form = e.form; out = e.out; err = took })
+    told c not_built_line status.NotBuilt (Due.not_built emits e.unbuilt) e.out ends (λ took. record { emits = emits; unbuilt = e.unbuilt; out = e.out; err = took })
 
 -- a store that nothing was asked of
 promise_unasked : (c : Call) → IsAnswered c c.status → Unchanged c.store → Promise c

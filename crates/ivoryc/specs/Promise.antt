@@ -1,10 +1,12 @@
 -- What each call of the program promises: why it answered its status, what it wrote, and which statuses it must answer.
 use Rattle.std.specs.Prelude.{◌≡◌, ℕ, ◌+◌, ◌≤◌, ◌⊎◌, List, Option, Some, None}
 use Rattle.iv_base.specs.Stores.{FileMap, text_of}
-use Rattle.ivory_parser.specs.declared.FirstModule.{FirstModule}
-use Rattle.ivory_parser.specs.FirstForm.{FirstForm}
-use Rattle.c_meaning.specs.declared.Target.TheVariants.{T32}
-use Rattle.c_meaning.specs.Syntax.{TranslationUnit}
+use Rattle.ivory_tree.specs.View.{module_of}
+use Rattle.ivory_tree.specs.declared.Module.{Module}
+use Rattle.first_form.specs.declared.FirstModule.{FirstModule}
+use Rattle.first_form.specs.Stands.{Stands}
+use Rattle.c_ast.specs.declared.Target.TheVariants.{T32}
+use Rattle.c_ast.specs.Syntax.{TranslationUnit}
 use Rattle.c_text.specs.ReadsBack.{Spells, ReadsBack}
 use Rattle.c_lower.specs.Shape.{Shape}
 use Rattle.c_lower.specs.Refines.{Refines}
@@ -13,8 +15,23 @@ use Rattle.ivoryc.specs.declared.command.Command.TheVariants.{Emit}
 use Rattle.ivoryc.specs.declared.status.Status.{Status}
 use Rattle.ivoryc.specs.declared.status.Status.TheVariants as status
 use Rattle.ivoryc.specs.Commands.{command}
-use Rattle.ivoryc.specs.Texts.{usage_line, read_fault_line, memory_line, not_built_line}
+use Rattle.ivoryc.specs.Texts.{usage_line, read_fault_line, too_large_line, memory_line, not_built_line}
+use Rattle.module_text.specs.Verdicts.{TooLong, Faulty, Reads, Judged}
 use Rattle.ivoryc.specs.Calls.{Call, Unchanged, Unread, Unwritten, Took, FailedAt, StandsUnder}
+
+-- ---- modules that are compiled so far
+
+-- the text of a tree that stands for a module of the first form
+pub record FirstForm (text : List ℕ) (core : FirstModule) : Type 0 where
+  pub tree : Module
+  pub read : Judged text (Reads tree)
+  pub stands : Stands (module_of tree) core
+
+-- the text of a tree that stands for no such module
+pub record IsUnbuilt (text : List ℕ) : Type 0 where
+  pub tree : Module
+  pub read : Judged text (Reads tree)
+  pub none : (core : FirstModule) → ¬ Stands (module_of tree) core
 
 -- ---- the headline: C text that does what a module text says
 
@@ -28,10 +45,6 @@ pub record IsCompiled (text bytes : List ℕ) : Type 0 where
   pub only : (other : TranslationUnit) → Spells other bytes → other ≡ unit
   pub shape : Shape core unit
   pub refines : Refines core unit T32
-
--- no module of the first form has this text
-abbrev pub IsNoFirstForm : List ℕ → Type 0
-IsNoFirstForm text = (core : FirstModule) → ¬ FirstForm text core
 
 -- ---- why a status was answered, and what was written
 
@@ -60,9 +73,23 @@ pub record WhereReadFault (c : Call) : Type 0 where
   pub out : Unchanged c.out
   pub err : Took c.err read_fault_line
 
+-- the text has a fault, which the line tells
+pub record WhereRefused (c : Call) : Type 0 where
+  pub emits : Emits c
+  pub line : List ℕ
+  pub faulty : Judged emits.text (Faulty line)
+  pub out : Unchanged c.out
+  pub err : Took c.err line
+
+pub record WhereTooLarge (c : Call) : Type 0 where
+  pub emits : Emits c
+  pub long : Judged emits.text TooLong
+  pub out : Unchanged c.out
+  pub err : Took c.err too_large_line
+
 pub record WhereNotBuilt (c : Call) : Type 0 where
   pub emits : Emits c
-  pub form : IsNoFirstForm emits.text
+  pub unbuilt : IsUnbuilt emits.text
   pub out : Unchanged c.out
   pub err : Took c.err not_built_line
 
@@ -77,7 +104,9 @@ pub record WhereOutFailed (c : Call) : Type 0 where
 pub data Due (c : Call) : List ℕ → Type 0 where
   words : command c.words ≡ None → Due c usage_line
   read_fault : Emits c → Unread c.store → Due c read_fault_line
-  not_built : (e : Emits c) → IsNoFirstForm e.text → Due c not_built_line
+  too_large : (e : Emits c) → Judged e.text TooLong → Due c too_large_line
+  refused : {line : List ℕ} (e : Emits c) → Judged e.text (Faulty line) → Due c line
+  not_built : (e : Emits c) → IsUnbuilt e.text → Due c not_built_line
 
 pub record WhereErrFailed (c : Call) : Type 0 where
   pub line : List ℕ
@@ -92,12 +121,12 @@ pub record WhereMemory (c : Call) : Type 0 where
 
 abbrev pub IsAnswered : Call → Status → Type 0
 IsAnswered c status.Done = WhereDone c
-IsAnswered c status.Refused = ⊥
+IsAnswered c status.Refused = WhereRefused c
 IsAnswered c status.Words = WhereWords c
 IsAnswered c status.ReadFault = WhereReadFault c
 IsAnswered c status.WriteFault = WhereOutFailed c ⊎ WhereErrFailed c
 IsAnswered c status.Memory = WhereMemory c
-IsAnswered c status.TooLarge = ⊥
+IsAnswered c status.TooLarge = WhereTooLarge c
 IsAnswered c status.Script = ⊥
 IsAnswered c status.NotBuilt = WhereNotBuilt c
 
@@ -126,7 +155,9 @@ pub record Promise (c : Call) : Type 0 where
   pub no_command : command c.words ≡ None → ¬ Unwritten c.err → OrMemory c status.Words
   pub complete : (text : List ℕ) (core : FirstModule) → AsksFor c text → FirstForm text core → ¬ Unread c.store → ¬ Unwritten c.out
       → OrMemory c status.Done
-  pub not_built : (text : List ℕ) → AsksFor c text → IsNoFirstForm text → ¬ Unread c.store → ¬ Unwritten c.err → OrMemory c status.NotBuilt
+  pub too_large : (text : List ℕ) → AsksFor c text → Judged text TooLong → ¬ Unread c.store → ¬ Unwritten c.err → OrMemory c status.TooLarge
+  pub refused : (text line : List ℕ) → AsksFor c text → Judged text (Faulty line) → ¬ Unread c.store → ¬ Unwritten c.err → OrMemory c status.Refused
+  pub not_built : (text : List ℕ) → AsksFor c text → IsUnbuilt text → ¬ Unread c.store → ¬ Unwritten c.err → OrMemory c status.NotBuilt
   -- at most one load for each word that stands for a file; the store still holds what it held
   pub loads : c.store.after.loads ≤ c.store.before.loads + files_named (command c.words)
   pub holds : c.store.after.holds ≡ c.store.before.holds

@@ -1,12 +1,14 @@
--- What the steps of a call answer to one another: the load, the compilation, the writing, and the report of a refusal.
+-- What the steps of a call answer to one another: the load, the reading, the compilation, the writing, and the report of a refusal.
 use Rattle.std.specs.Prelude.{◌≡◌, ℕ, ◌+◌, ◌≤◌, ◌⊎◌, List, Some, None, Result, Ok, Err}
 use Rattle.iv_base.specs.Stores.{Gives}
-use Rattle.ivory_parser.specs.declared.FirstModule.{FirstModule}
-use Rattle.ivory_parser.specs.FirstForm.{FirstForm}
-use Rattle.ivory_parser.specs.Valid.{Valid}
-use Rattle.c_meaning.specs.declared.CUnit.{CUnit}
-use Rattle.c_meaning.specs.declared.Target.TheVariants.{T32}
-use Rattle.c_meaning.specs.View.{unit_of}
+use Rattle.ivory_tree.specs.View.{module_of}
+use Rattle.ivory_tree.specs.declared.Module.{Module}
+use Rattle.first_form.specs.declared.FirstModule.{FirstModule}
+use Rattle.first_form.specs.Stands.{Stands}
+use Rattle.first_form.specs.Valid.{Valid}
+use Rattle.c_ast.specs.declared.CUnit.{CUnit}
+use Rattle.c_ast.specs.declared.Target.TheVariants.{T32}
+use Rattle.c_ast.specs.View.{unit_of}
 use Rattle.c_lower.specs.Compiled.{Compiled}
 use Rattle.ivoryc.specs.declared.command.Command.{Command}
 use Rattle.ivoryc.specs.declared.command.Command.TheVariants.{Emit}
@@ -15,9 +17,11 @@ use Rattle.ivoryc.specs.declared.refusal.Refusal.TheVariants as refusal
 use Rattle.ivoryc.specs.declared.status.Status.{Status}
 use Rattle.ivoryc.specs.declared.status.Status.TheVariants as status
 use Rattle.ivoryc.specs.Commands.{command}
-use Rattle.ivoryc.specs.Texts.{usage_line, read_fault_line, memory_line, not_built_line}
+use Rattle.ivoryc.specs.Texts.{usage_line, read_fault_line, too_large_line, memory_line, not_built_line}
+use Rattle.module_text.specs.Lines.{fault_line}
+use Rattle.module_text.specs.Verdicts.{Verdict, TooLong, Faulty, Reads, Judged}
 use Rattle.ivoryc.specs.Calls.{StoreSeen, SinkSeen, Change, Unchanged, Unread, Took, FailedAt, StandsUnder}
-use Rattle.ivoryc.specs.Promise.{IsCompiled, IsNoFirstForm}
+use Rattle.ivoryc.specs.Promise.{FirstForm, IsUnbuilt, IsCompiled}
 
 -- at most one load, and the store still holds what it held
 pub record LoadsAtMostOnce (store : Change StoreSeen) : Type 0 where
@@ -28,24 +32,9 @@ pub record LoadsAtMostOnce (store : Change StoreSeen) : Type 0 where
 -- the text, or why there is none
 abbrev pub Loaded : List ℕ → ℕ → Change StoreSeen → Result (List ℕ) Refusal → Type 0
 Loaded file most store (Ok text) = Gives store.before.holds file most text
-Loaded file most store (Err refusal.Words) = ⊥
 Loaded file most store (Err refusal.ReadFault) = Unread store
-Loaded file most store (Err refusal.WriteFault) = ⊥
 Loaded file most store (Err refusal.Memory) = Unit {0}
-Loaded file most store (Err refusal.NotBuilt) = ⊥
-
--- the module that the text stands for
-pub record IsRead (text : List ℕ) (core : FirstModule) : Type 0 where
-  pub form : FirstForm text core
-  pub valid : Valid core
-
-abbrev pub Read : List ℕ → Result FirstModule Refusal → Type 0
-Read text (Ok core) = IsRead text core
-Read text (Err refusal.Words) = ⊥
-Read text (Err refusal.ReadFault) = ⊥
-Read text (Err refusal.WriteFault) = ⊥
-Read text (Err refusal.Memory) = Unit {0}
-Read text (Err refusal.NotBuilt) = IsNoFirstForm text
+Loaded file most store (Err _) = ⊥
 
 -- a unit for the module that the text stands for
 pub record IsUnitOf (text : List ℕ) (u : CUnit) : Type 0 where
@@ -55,20 +44,17 @@ pub record IsUnitOf (text : List ℕ) (u : CUnit) : Type 0 where
 
 abbrev pub Made : List ℕ → Result CUnit Refusal → Type 0
 Made text (Ok u) = IsUnitOf text u
-Made text (Err refusal.Words) = ⊥
-Made text (Err refusal.ReadFault) = ⊥
-Made text (Err refusal.WriteFault) = ⊥
+Made text (Err refusal.TooLarge) = Judged text TooLong
+Made text (Err (refusal.Fault f)) = Judged text (Faulty (fault_line f))
+Made text (Err refusal.NotBuilt) = IsUnbuilt text
 Made text (Err refusal.Memory) = Unit {0}
-Made text (Err refusal.NotBuilt) = IsNoFirstForm text
+Made text (Err _) = ⊥
 
 -- the output took the text, or failed at it
 abbrev pub Written : List ℕ → Change SinkSeen → Result (Unit {0}) Refusal → Type 0
 Written text out (Ok done) = Took out text
-Written text out (Err refusal.Words) = ⊥
-Written text out (Err refusal.ReadFault) = ⊥
 Written text out (Err refusal.WriteFault) = FailedAt out text
-Written text out (Err refusal.Memory) = ⊥
-Written text out (Err refusal.NotBuilt) = ⊥
+Written text out (Err _) = ⊥
 
 -- C text for what stands under the name
 pub record HasText (file : List ℕ) (store : Change StoreSeen) : Type 0 where
@@ -89,10 +75,17 @@ pub record IsUnread (store : Change StoreSeen) (sink : Change SinkSeen) : Type 0
   pub unread : Unread store
   pub out : Unchanged sink
 
-pub record IsUnbuilt (file : List ℕ) (store : Change StoreSeen) (sink : Change SinkSeen) : Type 0 where
+-- what stands under the name is this
+pub record IsJudged (v : Verdict) (file : List ℕ) (store : Change StoreSeen) (sink : Change SinkSeen) : Type 0 where
   pub text : List ℕ
   pub stands : StandsUnder store.before.holds file text
-  pub form : IsNoFirstForm text
+  pub judged : Judged text v
+  pub out : Unchanged sink
+
+pub record IsLeft (file : List ℕ) (store : Change StoreSeen) (sink : Change SinkSeen) : Type 0 where
+  pub text : List ℕ
+  pub stands : StandsUnder store.before.holds file text
+  pub unbuilt : IsUnbuilt text
   pub out : Unchanged sink
 
 abbrev pub Emitted : List ℕ → Change StoreSeen → Change SinkSeen → Result (Unit {0}) Refusal → Type 0
@@ -101,7 +94,9 @@ Emitted file store out (Err refusal.Words) = ⊥
 Emitted file store out (Err refusal.ReadFault) = IsUnread store out
 Emitted file store out (Err refusal.WriteFault) = IsCutShort file store out
 Emitted file store out (Err refusal.Memory) = Unchanged out
-Emitted file store out (Err refusal.NotBuilt) = IsUnbuilt file store out
+Emitted file store out (Err refusal.TooLarge) = IsJudged TooLong file store out
+Emitted file store out (Err (refusal.Fault f)) = IsJudged (Faulty (fault_line f)) file store out
+Emitted file store out (Err refusal.NotBuilt) = IsLeft file store out
 
 abbrev pub Performed : Command → Change StoreSeen → Change SinkSeen → Result (Unit {0}) Refusal → Type 0
 Performed (Emit file) store out result = Emitted file store out result
@@ -122,4 +117,6 @@ Reported refusal.Words s err = Tells usage_line status.Words s err
 Reported refusal.ReadFault s err = Tells read_fault_line status.ReadFault s err
 Reported refusal.WriteFault s err = (s ≡ status.WriteFault) × Unchanged err
 Reported refusal.Memory s err = (s ≡ status.Memory) × (Took err memory_line ⊎ FailedAt err memory_line)
+Reported refusal.TooLarge s err = Tells too_large_line status.TooLarge s err
+Reported (refusal.Fault f) s err = Tells (fault_line f) status.Refused s err
 Reported refusal.NotBuilt s err = Tells not_built_line status.NotBuilt s err

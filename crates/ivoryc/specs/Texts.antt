@@ -10,6 +10,9 @@ usage_line = line (codes "usage: ivoryc emit FILE | check FILE | sites FILE | ru
 abbrev pub read_fault_line : List ℕ
 read_fault_line = line (codes "read fault")
 
+abbrev pub too_large_line : List ℕ
+too_large_line = line (codes "too large")
+
 abbrev pub memory_line : List ℕ
 memory_line = line (codes "no memory")
 

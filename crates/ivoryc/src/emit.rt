@@ -1,20 +1,18 @@
 ghost use Rattle.std.specs.Prelude.{◌≡◌, ◌<◌, ◌^◌};
-ghost use Rattle.c_meaning.specs.View.{unit_of};
+ghost use Rattle.c_ast.specs.View.{unit_of};
 ghost use Rattle.c_text.specs.Spelling.{unit_text};
 ghost use Rattle.c_text.specs.Subset.{InSubset};
 ghost use Rattle.ivoryc.specs.Calls.{change_of, store_seen, sink_seen};
-ghost use Rattle.ivoryc.specs.Steps.{LoadsAtMostOnce, Loaded, Read, Made, Written, Emitted};
+ghost use Rattle.ivoryc.specs.Steps.{LoadsAtMostOnce, Loaded, Made, Written, Emitted};
 
 use crate::refusal::Refusal;
+use c_ast::{CUnit, Target};
 use c_lower::lower;
-use c_meaning::{CUnit, Target};
 use c_writer::write_unit;
+use first_form::first_form;
 use iv_base::{Sink, Store, Word};
-use ivory_parser::{FirstModule, read_first};
+use module_text::{SOURCE_LIMIT, read_module};
 use std::alloc::Global;
-
-/// A module text has at most so many bytes.
-const SOURCE_LIMIT: u64 = 262_144;
 
 /// Writes the C text of the module in a file.
 pub fn emit<S: Store, K: Sink>(
@@ -44,16 +42,9 @@ fn load<S: Store>(alloc: Global, file: &Word, limit: u64, store: &mut S) -> Resu
 fn compile(alloc: Global, text: &[u8]) -> Result<CUnit, Refusal>
     ensures { Made text.now result }
 {
-    let module = read(alloc, text)?;
-    Ok(lower(alloc, &module, Target::T32)?)
-}
-
-/// The module that a text stands for.
-fn read(alloc: Global, text: &[u8]) -> Result<FirstModule, Refusal>
-    ensures { Read text.now result }
-{
-    match read_first(alloc, text)? {
-        Some(module) => Ok(module),
+    let tree = read_module(alloc, text)?;
+    match first_form(alloc, &tree)? {
+        Some(module) => Ok(lower(alloc, &module, Target::T32)?),
         None => Err(Refusal::NotBuilt),
     }
 }

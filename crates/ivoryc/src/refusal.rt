@@ -1,8 +1,11 @@
 ghost use Rattle.ivoryc.specs.Calls.{change_of, sink_seen};
 ghost use Rattle.ivoryc.specs.Steps.{Reported, Tells};
+ghost use Rattle.module_text.specs.Lines.{fault_line};
+ghost use Rattle.ivoryc.specs.declared.status.Status.TheVariants.{Refused as refused};
 
 use crate::status::Status;
 use iv_base::{LoadFault, Memory, Sink, SinkFault};
+use module_text::{Fault, TextFault};
 
 /// Why a command was not done.
 #[derive(Clone, Copy, Debug, Drop, PartialEq, Eq)]
@@ -15,6 +18,10 @@ pub enum Refusal {
     WriteFault,
     /// Memory is wanting.
     Memory,
+    /// A file is longer than its limit.
+    TooLarge,
+    /// The text has a fault.
+    Fault(Fault),
     /// The input is not built yet.
     NotBuilt,
 }
@@ -40,6 +47,21 @@ impl From<LoadFault> for Refusal {
         match fault {
             LoadFault::Fault => Refusal::ReadFault,
             LoadFault::Memory => Refusal::Memory,
+        }
+    }
+}
+
+impl From<TextFault> for Refusal {
+    ghost use Rattle.std.specs.Prelude.{◌≡◌};
+    ghost use Rattle.ivoryc.specs.Causes.{refusal_of_text};
+
+    ghost from_gives = { λ fault r. r ≡ refusal_of_text fault };
+
+    fn from(fault: TextFault) -> Refusal {
+        match fault {
+            TextFault::TooLarge => Refusal::TooLarge,
+            TextFault::At(fault) => Refusal::Fault(fault),
+            TextFault::Memory => Refusal::Memory,
         }
     }
 }
@@ -70,6 +92,8 @@ pub fn report<E: Sink>(refusal: Refusal, err: &mut E) -> Status
             let _ = err.put(b"no memory\n");
             Status::Memory
         }
+        Refusal::TooLarge => tell(b"too large\n", Status::TooLarge, err),
+        Refusal::Fault(fault) => tell_fault(fault, err),
         Refusal::NotBuilt => tell(b"not built yet\n", Status::NotBuilt, err),
     }
 }
@@ -84,5 +108,16 @@ fn tell<E: Sink>(line: &[u8], status: Status, err: &mut E) -> Status
     match err.put(line) {
         Ok(()) => status,
         Err(SinkFault) => Status::WriteFault,
+    }
+}
+
+/// Puts the line of a fault, and answers `Refused`, or `WriteFault` where the error output fails.
+fn tell_fault<E: Sink>(fault: Fault, err: &mut E) -> Status
+    ensures { Tells (fault_line fault) refused result (change_of (sink_seen E.held E.taken E.faults) err.old err.new) }
+{
+    if fault.put(err).is_ok() {
+        Status::Refused
+    } else {
+        Status::WriteFault
     }
 }

@@ -6,7 +6,7 @@ ghost use Rattle.ivoryc.specs.Statuses.{number_of};
 pub enum Status {
     /// 0: the command is done.
     Done,
-    /// 1: the module or the C text has a fault. No command answers it yet.
+    /// 1: the module or the C text has a fault.
     Refused,
     /// 2: the words are no command.
     Words,
@@ -16,7 +16,7 @@ pub enum Status {
     WriteFault,
     /// 5: memory is wanting.
     Memory,
-    /// 6: a file is longer than its limit. No command answers it yet.
+    /// 6: a file is longer than its limit.
     TooLarge,
     /// 7: the script does not read or does not fit. No command answers it yet.
     Script,

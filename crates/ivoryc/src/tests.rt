@@ -117,6 +117,8 @@ fn tells_why_it_refuses(rt: HostRuntime) -> Result<(), Memory> {
 
     let long = spaced_module(alloc, 262_145)?;
     let ended = call(alloc, &emit(alloc, b"a.iv")?, long, 1000)?;
-    assert_eq!(rt; ended.status, Status::NotBuilt);
+    assert_eq!(rt; ended.status, Status::TooLarge);
+    assert_eq!(rt; ended.out.text(), b"".as_slice());
+    assert_eq!(rt; ended.err.text(), b"too large\n".as_slice());
     Ok(())
 }

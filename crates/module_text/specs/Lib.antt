@@ -1,0 +1,4 @@
+pub mod Lines
+pub mod Verdicts
+pub mod Answers
+pub mod Trees

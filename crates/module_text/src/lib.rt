@@ -1,0 +1,8 @@
+//! What the text of a module is: too long, at fault at a place, or the text of a tree.
+#![tactic(auto)]
+
+mod fault;
+mod read;
+
+pub use fault::{Fault, TextFault, Why};
+pub use read::{SOURCE_LIMIT, read_module};

@@ -4,7 +4,7 @@ use Rattle.std.specs.Prelude.{max, nat_le}
 use Rattle.std.specs.Option.{option_map}
 use Rattle.std.proofs.lemmas.List.{length-map}
 use Rattle.std.proofs.Math.Nat.{mul-le-mul_left}
-use Rattle.iv_base.specs.declared.IntKind.{IntKind}
+use Rattle.iv_words.specs.declared.IntKind.{IntKind}
 use Rattle.area_types.specs.Syntax.{Area}
 use Rattle.area_types.specs.View.{struct_of}
 use Rattle.area_types.specs.Trees.{Tree, Leaf, Many, Parts, Fields, End, More, places, places_in, cells, nodes, nodes_in, levels, levels_in, part, first, area_in, cell_at}

@@ -3,12 +3,13 @@ use Rattle.std.proofs.Common.{◌≡◌, ℕ, zero, suc, ◌+◌, ◌*◌, ◌�
 use Rattle.std.specs.Prelude.{max, slice_get, nat_le, ◌&&◌}
 use Rattle.area_types.specs.Tables.{is_small}
 use Rattle.std.specs.Option.{option_map_or}
-use Rattle.iv_base.specs.declared.IntKind.{IntKind}
-use Rattle.iv_base.specs.declared.IntKind.TheVariants as kind
+use Rattle.iv_words.specs.declared.IntKind.{IntKind}
+use Rattle.iv_words.specs.declared.IntKind.TheVariants as kind
 use Rattle.area_types.specs.Syntax as syntax
 use Rattle.area_types.specs.Syntax.{ValueType, Field}
 use Rattle.area_types.specs.Trees.{Tree, Leaf, Many, Parts, Fields, End, More, tree_of, fields_of, places, places_in, cells, nodes, nodes_in, levels, levels_in, repeated}
-use Rattle.area_types.specs.Sizes.{kind_bytes, bytes, aligned, alignment, alignment_of, size, end_of}
+use Rattle.iv_words.specs.Kinds.{kind_bytes}
+use Rattle.area_types.specs.Sizes.{bytes, aligned, alignment, alignment_of, size, end_of}
 use Rattle.area_types.specs.Extents.{capped, extent_of, row_extent, times, with_field, enclosed}
 use Rattle.area_types.proofs.Capped.{capped_sum, capped_more, capped_product, capped_max, capped_aligned, at_most_capped}
 

@@ -1,6 +1,6 @@
 -- What each form of a tree says in the abstract syntax: one equation for each variant.
 use Rattle.std.proofs.Common.{◌≡◌, ℕ, ap, sym, ◌∙◌}
-use Rattle.iv_base.specs.declared.IntKind.{IntKind}
+use Rattle.iv_words.specs.declared.IntKind.{IntKind}
 use Rattle.area_types.specs.Syntax as syntax
 use Rattle.area_types.specs.Syntax.{Name, ValueType, Area}
 use Rattle.area_types.specs.Shapes as shape

@@ -7,7 +7,7 @@ use Rattle.std.proofs.Math.Nat.{mul-le-mul_right}
 use Rattle.std.proofs.lemmas.Bool.{ltb-true, le-leb}
 use Rattle.std.proofs.lemmas.List.{length-map}
 use Rattle.std.proofs.lemmas.Option.{slice_get-get_or, slice_get_within}
-use Rattle.iv_base.specs.declared.IntKind.{IntKind}
+use Rattle.iv_words.specs.declared.IntKind.{IntKind}
 use Rattle.area_types.specs.Syntax as syntax
 use Rattle.area_types.specs.Syntax.{Area, Field, StructType}
 use Rattle.area_types.specs.View.{area_of, struct_of, found_of}

@@ -3,11 +3,12 @@ use Rattle.std.proofs.Common.{◌≡◌, ℕ, zero, suc, ◌+◌, ◌*◌, ◌<�
 use Rattle.std.specs.Prelude.{slice_get, nat_lt, nat_le, ◌&&◌}
 use Rattle.std.specs.List.{list_all}
 use Rattle.std.specs.Option.{option_map_or}
-use Rattle.iv_base.specs.declared.IntKind.{IntKind}
+use Rattle.iv_words.specs.declared.IntKind.{IntKind}
 use Rattle.area_types.specs.Syntax as syntax
 use Rattle.area_types.specs.Syntax.{ValueType, Area, Field, StructType}
 use Rattle.area_types.specs.Trees.{Tree, Leaf, Many, Parts, Fields, End, More, fields_of, trees_of, levels}
-use Rattle.area_types.specs.Sizes.{kind_bytes, bytes, aligned, alignment, alignment_of, size, end_of}
+use Rattle.iv_words.specs.Kinds.{kind_bytes}
+use Rattle.area_types.specs.Sizes.{bytes, aligned, alignment, alignment_of, size, end_of}
 use Rattle.area_types.specs.Tables.{is_length, is_stored, is_made_of, has_index_lengths, is_field, is_small, fits_after, fit_after}
 use Rattle.area_types.proofs.Truths.{both, also, is_below, below_is}
 use Rattle.area_types.proofs.Sound.{Sound, SoundFields, SoundTrees, sound_parts, sound_more, fits_some, fits_fields, fits_small, length-trees_of}

@@ -1,7 +1,7 @@
 -- What one walk over an area finds: its numbers, each of which stops at the greatest `u32`.
 use Rattle.std.specs.Prelude.{ℕ, ◌+◌, ◌*◌, ◌≡◌, List, length, min, max, Option, Result, IfOk}
 use Rattle.std.specs.Option.{option_map}
-use Rattle.iv_base.specs.declared.IntKind.{IntKind}
+use Rattle.iv_words.specs.declared.IntKind.{IntKind}
 use Rattle.area_types.specs.Syntax.{Area}
 use Rattle.area_types.specs.View.{found_of}
 use Rattle.area_types.specs.Trees.{Tree, Fields, cells, nodes, levels, places_in, nodes_in, levels_in, part, first, area_in}

@@ -3,14 +3,11 @@
 -- (ISO/IEC 9899:1999, 6.2.6.1 and 6.7.2.1, leave these to the implementation). An array of areas is one row of them.
 use Rattle.std.specs.Prelude.{ℕ, ◌+◌, ◌*◌, ◌-◌, ◌/◌, ◌%◌, List, max, slice_get}
 use Rattle.std.specs.Option.{option_map_or}
-use Rattle.iv_base.specs.Kinds.{width}
-use Rattle.iv_base.specs.declared.IntKind.{IntKind}
+use Rattle.iv_words.specs.Kinds.{kind_bytes}
+use Rattle.iv_words.specs.declared.IntKind.{IntKind}
 use Rattle.area_types.specs.Syntax as syntax
 use Rattle.area_types.specs.Syntax.{ValueType}
 use Rattle.area_types.specs.Trees.{Tree, Leaf, Many, Parts, Fields, End, More}
-
-abbrev pub kind_bytes : IntKind → ℕ
-kind_bytes kind = width kind / 8
 
 -- a truth is a `bool`, an index a `uint16_t`, bits are their word, and a reference is a pointer
 abbrev pub bytes : List IntKind → ValueType → ℕ

@@ -1,7 +1,7 @@
 -- The abstract syntax of types and areas, for definitions by cases.
 -- A value is a truth, a whole number of a kind, an index of a length, bits of a numbered word, or a reference to an area.
 use Rattle.std.specs.Prelude.{ℕ, Bool, List}
-use Rattle.iv_base.specs.declared.IntKind.{IntKind}
+use Rattle.iv_words.specs.declared.IntKind.{IntKind}
 use Rattle.area_types.specs.declared.region.Region.{Region}
 
 -- the bytes of a name

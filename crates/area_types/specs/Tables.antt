@@ -1,7 +1,7 @@
 -- Tables of structs, and which areas and structs they allow. A table has besides the word of each item of bit data.
 use Rattle.std.specs.Prelude.{ℕ, List, [], ◌∷◌, ◌++◌, length, map, nat_lt, nat_le, Bool, true, false, ◌&&◌}
 use Rattle.std.specs.List.{list_all}
-use Rattle.iv_base.specs.declared.IntKind.{IntKind}
+use Rattle.iv_words.specs.declared.IntKind.{IntKind}
 use Rattle.area_types.specs.Syntax as syntax
 use Rattle.area_types.specs.Syntax.{ValueType, Area, Field, StructType}
 use Rattle.area_types.specs.View.{field_of, struct_of}

@@ -1,5 +1,5 @@
 use crate::region::Region;
-use iv_base::{Box, IntKind};
+use iv_words::{Box, IntKind};
 
 /// The type of one value: a truth, a whole number, an index of a length, bits of the word of that number, or a reference.
 #[cycle(area)]

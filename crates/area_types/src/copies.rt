@@ -5,7 +5,7 @@ ghost use Rattle.std.specs.Prelude.{◌≡◌, IfOk};
 use crate::area::{Area, RefType, ValueType};
 use crate::shape::AreaShape;
 use crate::structs::{FieldDef, StructDef};
-use iv_base::{Box, Copied, Memory};
+use iv_words::{Box, Copied, Memory};
 use std::alloc::Global;
 
 impl ValueType {

@@ -3,15 +3,16 @@
 
 ghost use Rattle.std.specs.Prelude.{◌≡◌, ◌≤◌, List, map, nat_le, ◌&&◌};
 ghost use Rattle.area_types.specs.Extents.{capped, extent_of, row_extent, times, with_field, enclosed};
-ghost use Rattle.area_types.specs.Sizes.{bytes, kind_bytes, aligned};
+ghost use Rattle.iv_words.specs.Kinds.{kind_bytes};
+ghost use Rattle.area_types.specs.Sizes.{bytes, aligned};
 ghost use Rattle.area_types.specs.Syntax.{Bits};
-ghost use Rattle.iv_base.specs.declared.IntKind.{IntKind};
+ghost use Rattle.iv_words.specs.declared.IntKind.{IntKind};
 ghost use Rattle.area_types.specs.Trees.{Leaf, End, Parts, tree_of, trees_of, fields_of};
 ghost use Rattle.area_types.specs.View.{type_of, area_of, field_of, struct_of};
 
 use crate::area::{Area, ValueType};
 use crate::structs::{FieldDef, StructDef};
-use iv_base::IntKind;
+use iv_words::IntKind;
 
 /// The numbers of an area. `cells` counts the stored places, `nodes` arrays and structs too, and `levels` how many of these
 /// stand one within the other; `size` and `alignment` are in bytes, on the target t32.

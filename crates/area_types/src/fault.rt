@@ -1,4 +1,4 @@
-use iv_base::Memory;
+use iv_words::Memory;
 
 /// Why a shape names no area of a table.
 #[derive(Clone, Copy, Debug, Drop, PartialEq, Eq)]

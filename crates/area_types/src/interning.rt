@@ -13,7 +13,7 @@ use crate::measure::extent;
 use crate::shape::AreaShape;
 use crate::structs::StructDef;
 use crate::table::StructTable;
-use iv_base::{Box, Memory, Word};
+use iv_words::{Box, Memory, Word};
 use std::alloc::Global;
 
 /// The number of the first struct of the name.

@@ -10,7 +10,7 @@ ghost use Rattle.area_types.specs.View.{area_of};
 use crate::area::Area;
 use crate::extent::{Extent, scalar_bytes};
 use crate::structs::{FieldDef, StructDef};
-use iv_base::IntKind;
+use iv_words::IntKind;
 
 /// The numbers of an area of a table.
 #[cycle(measure)]

@@ -12,7 +12,7 @@ use crate::area::Area;
 use crate::measure::{extent, fields_extent};
 use crate::structs::{FieldDef, StructDef};
 use crate::table::StructTable;
-use iv_base::{IntKind, Memory, Seq};
+use iv_words::{IntKind, Memory, Seq};
 use std::alloc::Global;
 
 /// The same part, where so many cells stand before the area in which it was found.

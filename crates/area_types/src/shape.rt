@@ -1,5 +1,5 @@
 use crate::area::ValueType;
-use iv_base::{Box, Word};
+use iv_words::{Box, Word};
 
 /// The shape of an area as a text names it: lengths as they are written, and structs by name.
 #[derive(Debug, Drop, PartialEq, Eq)]

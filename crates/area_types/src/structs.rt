@@ -1,5 +1,5 @@
 use crate::area::Area;
-use iv_base::{Seq, Word};
+use iv_words::{Seq, Word};
 
 /// A field of a struct.
 #[derive(Debug, Drop, PartialEq, Eq)]

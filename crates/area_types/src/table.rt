@@ -8,7 +8,7 @@ ghost use Rattle.area_types.specs.View.{field_of, struct_of};
 use crate::limits::is_field;
 use crate::measure::fields_extent;
 use crate::structs::{FieldDef, StructDef};
-use iv_base::{IntKind, Memory, Seq};
+use iv_words::{IntKind, Memory, Seq};
 use std::alloc::Global;
 use std::marker::Model;
 

@@ -6,7 +6,7 @@ use crate::{
     Area, AreaFault, AreaShape, FieldDef, RefType, Region, StructDef, StructTable, ValueType,
     cell_at, cells, intern, nodes,
 };
-use iv_base::{Box, IntKind, Memory, Seq, Word};
+use iv_words::{Box, IntKind, Memory, Seq, Word};
 use std::alloc::Global;
 
 fn word(alloc: Global, text: &[u8]) -> Result<Word, Memory> {

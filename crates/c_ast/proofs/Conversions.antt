@@ -4,7 +4,7 @@ use Rattle.std.specs.Prelude.{Some, None, is_none, not, ◌&&◌, if◌then◌el
 use Rattle.std.proofs.lemmas.Int.{ints}
 use Rattle.std.proofs.lemmas.Nat.{pow_pos, mod_below}
 use Rattle.std.proofs.Math.Nat.{mod-eq_of_lt}
-use Rattle.iv_base.specs.Kinds.{in_range_of, width, is_signed}
+use Rattle.iv_words.specs.Kinds.{in_range_of, width, is_signed}
 use Rattle.c_ast.specs.declared.types.Target.{Target}
 use Rattle.c_ast.specs.declared.types.CScalar.TheVariants.{Truth, Int as Exact}
 use Rattle.c_ast.specs.declared.types.CKind.{CKind}

@@ -3,7 +3,6 @@ pub mod Names
 pub mod Conversions
 pub mod Ranges
 pub mod Promotions
-pub mod Modular
 pub mod Layouts
 pub mod Windows
 pub mod Parts

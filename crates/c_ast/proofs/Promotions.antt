@@ -3,9 +3,9 @@ use Rattle.std.proofs.Common.{◌≡◌, ℕ, ◌-◌, ◌≤◌, ℤ, Bool, tru
 use Rattle.std.specs.Prelude.{Option, Some, None, if◌then◌else◌, nat_lt, nat_le}
 use Rattle.std.proofs.lemmas.Int.{ints}
 use Rattle.std.proofs.lemmas.Nat.{pow_pos}
-use Rattle.iv_base.specs.Kinds.{in_range_of, in_range, width, is_signed}
-use Rattle.iv_base.specs.declared.IntKind.{IntKind}
-use Rattle.iv_base.specs.declared.IntKind.TheVariants.{U8, U16, U32, U64, I8, I16, I32, I64}
+use Rattle.iv_words.specs.Kinds.{in_range_of, in_range, width, is_signed}
+use Rattle.iv_words.specs.declared.IntKind.{IntKind}
+use Rattle.iv_words.specs.declared.IntKind.TheVariants.{U8, U16, U32, U64, I8, I16, I32, I64}
 use Rattle.c_ast.specs.declared.types.Target.TheVariants.{T32}
 use Rattle.c_ast.specs.declared.types.Arith.{Arith}
 use Rattle.c_ast.specs.declared.types.Arith.TheVariants.{Int, UInt, Long, ULong, LongLong, ULongLong}
@@ -15,7 +15,8 @@ use Rattle.c_ast.specs.declared.types.CKind.TheVariants.{Scalar, Arith as Comput
 use Rattle.c_ast.specs.Targets.{TargetTable, table_of, arith_bits, arith_signed, represents, promote_small, promote_exact, promoted, rank, unsigned_of, common_alike, common_mixed, common_signed, common_in}
 use Rattle.c_ast.specs.Conversions.{can_hold}
 use Rattle.c_ast.specs.TargetLaws.{SoundTable, TargetsAreSound, PromotionKeepsValues, SignedCommonKeepsValues}
-use Rattle.c_ast.proofs.Ranges.{powers_grow, wider, represented}
+use Rattle.iv_words.proofs.Ranges.{powers_grow, wider}
+use Rattle.c_ast.proofs.Ranges.{represented}
 
 -- ---- the tables
 

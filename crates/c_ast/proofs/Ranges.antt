@@ -1,23 +1,12 @@
--- Ranges of numbers of so many bits: the wider one has the numbers of the narrower.
-use Rattle.std.proofs.Common.{ℕ, ◌-◌, ◌^◌, ◌≤◌, ℤ, Bool, true, false, IsTrue, arith}
+-- A range that has both ends of another has all its numbers.
+use Rattle.std.proofs.Common.{ℕ, ℤ, Bool, IsTrue, arith}
 use Rattle.std.proofs.lemmas.Int.{ints}
-use Rattle.std.proofs.lemmas.Nat.{pow_pos}
-use Rattle.std.proofs.Math.Nat.{pow-le-pow_right}
 use Rattle.std.specs.Prelude.{◌&&◌, int_le}
-use Rattle.iv_base.specs.Kinds.{in_range_of, least_of, greatest_of}
+use Rattle.iv_words.specs.Kinds.{in_range_of, least_of, greatest_of}
 use Rattle.c_ast.specs.Targets.{represents}
-
-pub powers_grow : (m n : ℕ) → m ≤ n → 2 ^ m ≤ 2 ^ n
-powers_grow m n le = pow-le-pow_right {n = 2} (omega arith) le
-
-pub wider : (m n : ℕ) (signed : Bool) (v : ℤ) → m ≤ n → IsTrue (in_range_of m signed v) → IsTrue (in_range_of n signed v)
-wider m n true v le h =
-    let p = powers_grow (m - 1) (n - 1) (omega arith) in let a = pow_pos (m - 1) in let b = pow_pos (n - 1) in grind (arith, ints)
-wider m n false v le h = let p = powers_grow m n le in let a = pow_pos m in let b = pow_pos n in grind (arith, ints)
 
 between : (l g m n v : ℤ) → IsTrue ((int_le l m && int_le m g) && (int_le l n && int_le n g)) → IsTrue (int_le m v && int_le v n) → IsTrue (int_le l v && int_le v g)
 between l g m n v e h = grind (arith, ints)
 
--- so has one that has its ends
 pub represented : (bits : ℕ) (signed : Bool) (m : ℕ) (other : Bool) (v : ℤ) → IsTrue (represents bits signed m other) → IsTrue (in_range_of m other v) → IsTrue (in_range_of bits signed v)
 represented bits signed m other v e h = between (least_of bits signed) (greatest_of bits signed) (least_of m other) (greatest_of m other) v e h

@@ -1,6 +1,6 @@
 -- The struct that is found for a name is the one that the name stands for.
 use Rattle.std.proofs.Common.{◌≡◌, ℕ, zero, suc, ◌+◌, ◌≤◌, ◌<◌, List, [], ◌∷◌, ◌++◌, length, take, drop, get_or, Option, Some, None, Bool, true, false, if◌then◌else◌, refl, sym, ◌∙◌, ap, subst, arith}
-use Rattle.iv_base.specs.Words.{same_word}
+use Rattle.iv_words.specs.Words.{same_word}
 use Rattle.c_ast.specs.Trees.{Struct, Row, End, Field}
 use Rattle.c_ast.specs.Layouts.{Metric, up, align, align_row, size, end_row}
 use Rattle.c_ast.specs.declared.types.CScalar.{CScalar}

@@ -1,8 +1,8 @@
 -- How numbers are converted (C99 6.3.1.2, 6.3.1.3), and which type a constant has (6.4.4.1). The rules speak of any table of a target.
-use Rattle.std.specs.Prelude.{ℕ, ◌^◌, ℤ, pos, Bool, true, false, ◌&&◌, not, if◌then◌else◌, List, [], ◌∷◌, Option, Some, None}
-use Rattle.std.specs.Int.{int_rem_euclid}
+use Rattle.std.specs.Prelude.{ℕ, ℤ, pos, Bool, true, false, ◌&&◌, not, if◌then◌else◌, List, [], ◌∷◌, Option, Some, None}
 use Rattle.std.specs.Ordering.{int_eq}
-use Rattle.iv_base.specs.Kinds.{in_range_of, in_range, width, is_signed}
+use Rattle.iv_words.specs.Bits.{modulo}
+use Rattle.iv_words.specs.Kinds.{in_range_of, in_range, width, is_signed}
 use Rattle.c_ast.specs.declared.types.Target.{Target}
 use Rattle.c_ast.specs.declared.types.CScalar.TheVariants.{Truth, Int as Exact}
 use Rattle.c_ast.specs.declared.types.Arith.{Arith}
@@ -14,10 +14,6 @@ use Rattle.c_ast.specs.declared.expr.Suffix.TheVariants.{Plain, U, Ll, Ull}
 use Rattle.c_ast.specs.Targets.{TargetTable, table_of, arith_bits, arith_signed}
 
 -- ---- conversions
-
--- the number from 0 to 2 ^ bits - 1 that differs from v by a multiple of 2 ^ bits
-abbrev pub modulo : ℕ → ℤ → ℤ
-modulo bits v = int_rem_euclid v (pos (2 ^ bits))
 
 -- To an unsigned type the number is taken modulo 2 ^ bits; to a signed type it stays, and where the type cannot hold it the
 -- implementation decides (6.3.1.3).

@@ -1,7 +1,7 @@
 -- The bytes of a scalar and its alignment on a target: an exact-width type of so many bits has an eighth of them (C99 7.18.1.1), and
 -- `bool` has 1. A scalar is aligned to its size, or to the target's greatest alignment, whichever is less.
-use Rattle.std.specs.Prelude.{ℕ, ◌/◌, min}
-use Rattle.iv_base.specs.Kinds.{width}
+use Rattle.std.specs.Prelude.{ℕ, min}
+use Rattle.iv_words.specs.Kinds.{kind_bytes}
 use Rattle.c_ast.specs.declared.types.Target.{Target}
 use Rattle.c_ast.specs.declared.types.CScalar.{CScalar}
 use Rattle.c_ast.specs.declared.types.CScalar.TheVariants.{Truth, Int}
@@ -10,7 +10,7 @@ use Rattle.c_ast.specs.Layouts.{Metric}
 
 abbrev pub scalar_bytes : CScalar → ℕ
 scalar_bytes Truth = 1
-scalar_bytes (Int kind) = width kind / 8
+scalar_bytes (Int kind) = kind_bytes kind
 
 abbrev pub scalar_alignment : TargetTable → CScalar → ℕ
 scalar_alignment t s = min (scalar_bytes s) t.greatest_alignment

@@ -1,7 +1,7 @@
 -- The types of a unit as trees, and their layouts: names are resolved once, from the first struct on. A struct is made of those
 -- before it, and of two structs or members of one name the first counts.
 use Rattle.std.specs.Prelude.{ℕ, suc, List, [], ◌∷◌, ◌++◌, Option, Some, None, if◌then◌else◌}
-use Rattle.iv_base.specs.Words.{same_word}
+use Rattle.iv_words.specs.Words.{same_word}
 use Rattle.c_ast.specs.declared.types.Target.{Target}
 use Rattle.c_ast.specs.declared.types.CScalar.{CScalar}
 use Rattle.c_ast.specs.declared.types.CBase.{CBase}

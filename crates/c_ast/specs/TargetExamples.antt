@@ -1,7 +1,7 @@
 -- A second table, and to which types promotions and the usual conversions go: examples that hold the definitions fast.
 use Rattle.std.specs.Prelude.{◌≡◌, Option, Some, None}
-use Rattle.iv_base.specs.declared.IntKind.{IntKind}
-use Rattle.iv_base.specs.declared.IntKind.TheVariants.{U8, U16, U32, U64, I8, I16, I32, I64}
+use Rattle.iv_words.specs.declared.IntKind.{IntKind}
+use Rattle.iv_words.specs.declared.IntKind.TheVariants.{U8, U16, U32, U64, I8, I16, I32, I64}
 use Rattle.c_ast.specs.declared.types.Target.TheVariants.{T32}
 use Rattle.c_ast.specs.declared.types.CScalar.TheVariants.{Truth, Int as Exact}
 use Rattle.c_ast.specs.declared.types.Arith.{Arith}

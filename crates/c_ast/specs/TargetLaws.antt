@@ -1,7 +1,7 @@
 -- What holds of every target, and what follows for promotions and the usual conversions: they lose no value that they keep.
 use Rattle.std.specs.Prelude.{◌≡◌, ◌≤◌, ℤ, true, Some, None, IsTrue}
-use Rattle.iv_base.specs.Kinds.{width, is_signed}
-use Rattle.iv_base.specs.declared.IntKind.{IntKind}
+use Rattle.iv_words.specs.Kinds.{width, is_signed}
+use Rattle.iv_words.specs.declared.IntKind.{IntKind}
 use Rattle.c_ast.specs.declared.types.Target.{Target}
 use Rattle.c_ast.specs.declared.types.Arith.{Arith}
 use Rattle.c_ast.specs.declared.types.CKind.{CKind}

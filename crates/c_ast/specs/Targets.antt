@@ -1,9 +1,9 @@
 -- What a C compiler decides about types, as a table with one row for each target, and what follows of it: the integer
 -- promotions (C99 6.3.1.1) and the usual arithmetic conversions (6.3.1.8). The rules speak of any table.
 use Rattle.std.specs.Prelude.{ℕ, Bool, true, false, ◌&&◌, if◌then◌else◌, nat_lt, nat_le, Option, Some, None}
-use Rattle.iv_base.specs.Kinds.{in_range_of, least_of, greatest_of, width, is_signed}
-use Rattle.iv_base.specs.declared.IntKind.{IntKind}
-use Rattle.iv_base.specs.declared.IntKind.TheVariants.{U8, U16, U32, U64, I8, I16, I32, I64}
+use Rattle.iv_words.specs.Kinds.{in_range_of, least_of, greatest_of, width, is_signed}
+use Rattle.iv_words.specs.declared.IntKind.{IntKind}
+use Rattle.iv_words.specs.declared.IntKind.TheVariants.{U8, U16, U32, U64, I8, I16, I32, I64}
 use Rattle.c_ast.specs.declared.types.Target.{Target}
 use Rattle.c_ast.specs.declared.types.Target.TheVariants.{T32}
 use Rattle.c_ast.specs.declared.types.CScalar.{CScalar}

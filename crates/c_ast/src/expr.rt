@@ -1,7 +1,7 @@
 ghost use Rattle.std.specs.Prelude.{◌≡◌, IfOk};
 
 use crate::types::CType;
-use iv_base::{Box, Copied, Memory, Seq, Word};
+use iv_words::{Box, Copied, Memory, Seq, Word};
 use std::alloc::Global;
 
 /// The suffix of an integer constant: none, `u`, `ll` or `ull` (C99 6.4.4.1).

@@ -13,7 +13,7 @@ ghost use Rattle.c_ast.specs.Structs.{index_of};
 use crate::target::width;
 use crate::types::{CBase, CScalar, Target};
 use crate::unit::{CMember, CStruct, CUnit};
-use iv_base::Word;
+use iv_words::Word;
 
 fn scalar_size(s: CScalar) -> u64
     ensures value { result ≡ scalar_bytes s }

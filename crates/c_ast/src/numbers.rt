@@ -1,7 +1,7 @@
 //! Integer promotions, usual arithmetic conversions, and conversions of numbers.
 
 ghost use Rattle.std.specs.Prelude.{◌≡◌, ◌≤◌, ◌^◌, is_none, pos};
-ghost use Rattle.iv_base.specs.Kinds.{in_range_of, least_of, greatest_of};
+ghost use Rattle.iv_words.specs.Kinds.{in_range_of, least_of, greatest_of};
 ghost use Rattle.c_ast.specs.Conversions as conversions;
 ghost use Rattle.c_ast.specs.Targets as targets;
 

@@ -2,7 +2,7 @@ ghost use Rattle.std.specs.Prelude.{◌≡◌, IfOk};
 
 use crate::expr::{CExpr, CInit, CPlace};
 use crate::types::{CBase, CType};
-use iv_base::{Copied, Memory, Seq, Word};
+use iv_words::{Copied, Memory, Seq, Word};
 use std::alloc::Global;
 
 /// A call of a function of the unit or of an `extern`, with its arguments (C99 6.5.2.2).

@@ -1,11 +1,11 @@
 //! The table of a target, and the types in which C computes there.
 
 ghost use Rattle.std.specs.Prelude.{◌≡◌, ◌≤◌};
-ghost use Rattle.iv_base.specs.Kinds as kinds;
+ghost use Rattle.iv_words.specs.Kinds as kinds;
 ghost use Rattle.c_ast.specs.Targets as targets;
 
 use crate::types::{Arith, Target};
-use iv_base::IntKind;
+use iv_words::IntKind;
 
 /// The number of bits of an exact-width kind (C99 7.18.1.1).
 pub(crate) fn width(kind: IntKind) -> u32

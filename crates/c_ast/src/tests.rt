@@ -6,8 +6,8 @@ use crate::{
     CParam, CPlace, CScalar, CStmt, CStruct, CType, CUnit, Suffix, Target, align_of, c_exports,
     common, convert, offset_of, promote, size_of,
 };
-use iv_base::{Box, IntKind, Memory, Seq, Word};
 use iv_script::Plain;
+use iv_words::{Box, IntKind, Memory, Seq, Word};
 use std::alloc::Global;
 use std::test::Fail;
 

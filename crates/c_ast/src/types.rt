@@ -1,6 +1,6 @@
 ghost use Rattle.std.specs.Prelude.{◌≡◌, IfOk};
 
-use iv_base::{Copied, IntKind, Memory, Word};
+use iv_words::{Copied, IntKind, Memory, Word};
 use std::alloc::Global;
 
 /// What a C compiler decides about types: widths, byte order, alignments and the types of constants.

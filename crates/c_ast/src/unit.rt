@@ -3,7 +3,7 @@ ghost use Rattle.std.specs.Prelude.{◌≡◌, IfOk};
 use crate::expr::CInit;
 use crate::stmt::CStmt;
 use crate::types::{CBase, CType};
-use iv_base::{Copied, Memory, Seq, Word};
+use iv_words::{Copied, Memory, Seq, Word};
 use std::alloc::Global;
 
 /// A member of a struct: of a type, or an array of `length` elements of it.

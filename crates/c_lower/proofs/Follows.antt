@@ -2,9 +2,9 @@
 use Rattle.std.proofs.Common.{◌≡◌, ◌≢◌, ℕ, zero, suc, ℤ, ◌<◌, ◌≤◌, ◌^◌, Bool, true, false, List, [], ◌∷◌, map, Option, Some, None, Ok, refl, sym, ◌∙◌, ap, subst, arith}
 use Rattle.std.specs.Prelude.{All, IsTrue, if◌then◌else◌, replicate}
 use Rattle.std.proofs.lemmas.List.Elements.{All-head, All-tail}
-use Rattle.iv_base.specs.declared.IntKind.TheVariants.{U8}
+use Rattle.iv_words.specs.declared.IntKind.TheVariants.{U8}
 use Rattle.iv_script.specs.declared.Export.{Export}
-use Rattle.iv_base.specs.Words.{same_word}
+use Rattle.iv_words.specs.Words.{same_word}
 use Rattle.iv_script.specs.Scripts.{export_of, found_fits, values_fit}
 use Rattle.step_semantics.specs.Steps.{World, Progress, Part, give, after, bind, tick, left}
 use Rattle.step_semantics.specs.Control.{Control, Falls, Broke, Returned, onward}

@@ -2,7 +2,7 @@
 use Rattle.std.proofs.Common.{◌≡◌, ◌≢◌, ℕ, zero, suc, Bool, true, cond, List, [], ◌∷◌, ◌++◌, map, Some, ◌∙◌, ap, subst}
 use Rattle.std.specs.Prelude.{slice_get, AllPairs}
 use Rattle.std.specs.List.{find}
-use Rattle.iv_base.specs.Words.{same_word}
+use Rattle.iv_words.specs.Words.{same_word}
 use Rattle.first_form.specs.declared.FirstImport.{FirstImport}
 use Rattle.c_ast.specs.declared.CExtern.{CExtern}
 use Rattle.c_ast.specs.Names.{prefixed}

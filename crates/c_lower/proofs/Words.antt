@@ -2,7 +2,7 @@
 use Rattle.std.proofs.Common.{◌≡◌, ◌≢◌, ℕ, Bool, true, false, List, [], ◌∷◌, refl, ◌∙◌, ap}
 use Rattle.std.specs.Prelude.{nat_eq, ◌&&◌}
 use Rattle.std.proofs.lemmas.Bool.{and_parts, eqb-true, eq-eqb}
-use Rattle.iv_base.specs.Words.{same_word}
+use Rattle.iv_words.specs.Words.{same_word}
 use Rattle.c_ast.specs.Names.{prefixed, outer_name, stop_name}
 
 pub same_self : (a : List ℕ) → same_word a a ≡ true

@@ -1,7 +1,7 @@
 -- What the unit of a module must look like, whatever its bodies do: exactly the declarations below, in order, and no other.
 use Rattle.std.specs.Prelude.{◌≡◌, List, [], ◌∷◌, ◌++◌, map, replicate, codes, false, All}
 use Rattle.std.specs.List.{AllZip}
-use Rattle.iv_base.specs.declared.IntKind.TheVariants.{U8}
+use Rattle.iv_words.specs.declared.IntKind.TheVariants.{U8}
 use Rattle.first_form.specs.declared.FirstModule.{FirstModule}
 use Rattle.first_form.specs.declared.FirstImport.{FirstImport}
 use Rattle.first_form.specs.declared.FirstProc.{FirstProc}

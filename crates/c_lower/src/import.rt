@@ -1,5 +1,5 @@
 ghost use Rattle.std.specs.Prelude.{◌≡◌, IfOk, map, replicate};
-ghost use Rattle.iv_base.specs.declared.IntKind.TheVariants as kind;
+ghost use Rattle.iv_words.specs.declared.IntKind.TheVariants as kind;
 ghost use Rattle.c_ast.specs.declared.CScalar.TheVariants as scalar;
 ghost use Rattle.c_ast.specs.declared.CType.TheVariants as ctype;
 ghost use Rattle.c_lower.specs.Shape as shape;
@@ -7,7 +7,7 @@ ghost use Rattle.c_lower.specs.Shape as shape;
 use crate::name::prefixed_name;
 use c_ast::{CExtern, CScalar, CType};
 use first_form::FirstImport;
-use iv_base::{IntKind, Memory, Seq};
+use iv_words::{IntKind, Memory, Seq};
 use std::alloc::Global;
 
 /// A parameter of `uint8_t` for each parameter of the import.

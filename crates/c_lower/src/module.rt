@@ -8,7 +8,7 @@ use crate::import::externs_for;
 use crate::procedure::functions_for;
 use c_ast::{CUnit, Target};
 use first_form::FirstModule;
-use iv_base::{Memory, Seq};
+use iv_words::{Memory, Seq};
 use std::alloc::Global;
 
 /// The unit with an `extern` for each import and a function for each procedure.

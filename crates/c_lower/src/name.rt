@@ -1,7 +1,7 @@
 ghost use Rattle.std.specs.Prelude.{◌≡◌, IfOk};
 ghost use Rattle.c_ast.specs.Names.{prefixed};
 
-use iv_base::{Memory, Word};
+use iv_words::{Memory, Word};
 use std::alloc::Global;
 
 /// The C name for a name of the module.

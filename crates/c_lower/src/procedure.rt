@@ -6,7 +6,7 @@ ghost use Rattle.c_lower.specs.Lowered as lowered;
 use crate::name::prefixed_name;
 use c_ast::{CCall, CExpr, CFunction, CStmt, CType, Suffix};
 use first_form::{FirstCall, FirstImport, FirstProc};
-use iv_base::{Memory, Seq, Word};
+use iv_words::{Memory, Seq, Word};
 use std::alloc::Global;
 
 /// The values of a call as constants.

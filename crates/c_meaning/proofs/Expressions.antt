@@ -3,8 +3,8 @@ use Rattle.std.proofs.Common.{◌≡◌, ℕ, ℤ, pos, Bool, true, false, IsTru
 use Rattle.std.specs.Prelude.{All, if◌then◌else◌}
 use Rattle.std.specs.Option.{option_map, option_and_then}
 use Rattle.std.proofs.lemmas.List.Elements.{All-head, All-tail}
-use Rattle.iv_base.specs.Words.{same_word}
-use Rattle.iv_base.specs.Kinds.{width, is_signed}
+use Rattle.iv_words.specs.Words.{same_word}
+use Rattle.iv_words.specs.Kinds.{width, is_signed}
 use Rattle.iv_script.specs.declared.Reason.{Reason}
 use Rattle.c_ast.specs.declared.Target.{Target}
 use Rattle.c_ast.specs.declared.Arith.{Arith}

@@ -2,7 +2,7 @@
 use Rattle.std.proofs.Common.{◌≡◌, ℕ, zero, suc, ℤ, pos, negsuc, false, IsTrue, Ok, arith, refl, ap}
 use Rattle.std.specs.Prelude.{Some}
 use Rattle.std.proofs.lemmas.Int.{ints}
-use Rattle.iv_base.specs.Kinds.{in_range_of, width, is_signed}
+use Rattle.iv_words.specs.Kinds.{in_range_of, width, is_signed}
 use Rattle.c_ast.specs.declared.Target.{Target}
 use Rattle.c_ast.specs.declared.CScalar.{CScalar}
 use Rattle.c_ast.specs.declared.CScalar.TheVariants.{Truth, Int as Exact}

@@ -4,7 +4,7 @@ use Rattle.std.specs.Prelude.{if◌then◌else◌, int_lt, int_le, ◌||◌, bit
 use Rattle.std.specs.Ordering.{int_eq}
 use Rattle.std.proofs.lemmas.Int.{ints}
 use Rattle.std.proofs.lemmas.Nat.{pow_pos}
-use Rattle.iv_base.specs.Kinds.{in_range_of}
+use Rattle.iv_words.specs.Kinds.{in_range_of}
 use Rattle.iv_script.specs.declared.Reason.{Reason}
 use Rattle.c_ast.specs.declared.Arith.{Arith}
 use Rattle.c_ast.specs.declared.Arith.TheVariants.{Int, UInt, Long, ULong, LongLong, ULongLong}
@@ -15,15 +15,16 @@ use Rattle.c_ast.specs.declared.CUnary.TheVariants.{Neg, Flip, Not}
 use Rattle.c_ast.specs.declared.CBinary.{CBinary}
 use Rattle.c_ast.specs.declared.CBinary.TheVariants.{Add, Sub, Mul, Div, Rem, And, Or, Xor, Shl, Shr, Eq, Ne, Lt, Le, Gt, Ge, AndAlso, OrElse}
 use Rattle.c_ast.specs.Targets.{TargetTable, arith_bits, arith_signed, promoted, common_in, common_type}
-use Rattle.c_ast.specs.Conversions.{converted, can_hold, modulo}
+use Rattle.iv_words.specs.Bits.{modulo}
+use Rattle.c_ast.specs.Conversions.{converted, can_hold}
 use Rattle.c_meaning.specs.Values.{CValue, Num, kind_of, is_true, on_ok}
 use Rattle.c_meaning.specs.Operators.{Operator, sum, difference, product, quotient, remainder, bitwise, shifted_left, shifted_right, computed, truth, converted_or, operand, in_common, usual, compared, shifted, unary, binary}
 use Rattle.c_meaning.specs.Expressions.{unary_type, binary_type}
 use Rattle.c_ast.specs.TargetLaws.{SoundTable}
 use Rattle.c_meaning.specs.ExpressionLaws.{IsTyped, HasItsType}
 use Rattle.c_ast.proofs.Conversions.{held_stays, converted_held}
-use Rattle.c_ast.proofs.Ranges.{powers_grow}
-use Rattle.c_ast.proofs.Modular.{modulo_of_held}
+use Rattle.iv_words.proofs.Ranges.{powers_grow}
+use Rattle.iv_words.proofs.Modular.{modulo_of_held}
 use Rattle.c_ast.proofs.Promotions.{promotion_keeps, signed_common_keeps}
 use Rattle.c_meaning.proofs.OperatorRanges.{Stays, InRange, sum_stays, difference_stays, product_stays, quotient_stays, remainder_stays, and_stays, or_stays, xor_stays, fitted_in_range, flipped_in_range, shifted_left_in_range, shifted_right_in_range}
 

@@ -5,11 +5,11 @@ use Rattle.std.specs.Ordering.{int_eq}
 use Rattle.std.proofs.lemmas.Int.{ints, quot-rem}
 use Rattle.std.proofs.lemmas.Nat.{pow_pos, mod_below, and_le_l, or_lt, xor_lt, shr_le}
 use Rattle.std.proofs.Math.Nat.{mod-le, pow-suc}
-use Rattle.iv_base.specs.Kinds.{in_range_of}
+use Rattle.iv_words.specs.Kinds.{in_range_of}
 use Rattle.iv_script.specs.declared.Reason.{Reason}
 use Rattle.c_meaning.specs.Values.{on_ok}
 use Rattle.c_meaning.specs.Operators.{Operator, fitted, sum, difference, product, quotient, remainder, bits_of, number_of_bits, bitwise, shifted_left, shifted_right, flipped}
-use Rattle.c_ast.proofs.Modular.{modulo_in_range, modulo_of_held}
+use Rattle.iv_words.proofs.Modular.{modulo_in_range, modulo_of_held}
 
 -- the number, where there is one, is one of the type
 abbrev pub InRange : ℕ → Bool → Result ℤ Reason → Type 0

@@ -1,8 +1,8 @@
 -- Calls (C99 6.5.2.2), once the values of the arguments are there and the call's step is taken.
 use Rattle.std.specs.Prelude.{ℤ, unsigned_abs, List, [], ◌∷◌, map, Option, Some, None, if◌then◌else◌, Result, Ok, Err}
 use Rattle.std.specs.List.{find}
-use Rattle.iv_base.specs.Words.{same_word}
-use Rattle.iv_base.specs.declared.IntKind.TheVariants.{U32}
+use Rattle.iv_words.specs.Words.{same_word}
+use Rattle.iv_words.specs.declared.IntKind.TheVariants.{U32}
 use Rattle.iv_script.specs.declared.Piece.{Piece}
 use Rattle.iv_script.specs.declared.Piece.TheVariants as piece
 use Rattle.iv_script.specs.declared.Plain.{Plain}

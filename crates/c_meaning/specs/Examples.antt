@@ -1,6 +1,6 @@
 -- Small units, and exactly what their runs come to: examples that hold the definitions fast.
 use Rattle.std.specs.Prelude.{◌≡◌, ℕ, ℤ, pos, List, [], ◌∷◌, map, None, true, false, codes}
-use Rattle.iv_base.specs.declared.IntKind.TheVariants.{U8, I8}
+use Rattle.iv_words.specs.declared.IntKind.TheVariants.{U8, I8}
 use Rattle.iv_script.specs.declared.Event.{Event}
 use Rattle.iv_script.specs.declared.Event.TheVariants as event
 use Rattle.iv_script.specs.declared.Piece.TheVariants as piece

@@ -1,7 +1,7 @@
 -- The types and the values of expressions (C99 6.5), from left to right. An expression takes no step.
 use Rattle.std.specs.Prelude.{List, [], ◌∷◌, Option, Some, None, if◌then◌else◌, Result, Ok, Err}
 use Rattle.std.specs.Option.{option_map, option_and_then}
-use Rattle.iv_base.specs.Words.{same_word}
+use Rattle.iv_words.specs.Words.{same_word}
 use Rattle.iv_script.specs.declared.Reason.{Reason}
 use Rattle.c_ast.specs.declared.Arith.TheVariants.{Int}
 use Rattle.c_ast.specs.declared.CKind.{CKind}

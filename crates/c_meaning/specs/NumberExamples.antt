@@ -1,7 +1,7 @@
 -- Operators on small values, and exactly what they give: examples that hold the definitions fast.
 use Rattle.std.specs.Prelude.{◌≡◌, ℕ, ◌^◌, ℤ, pos, ◌-ℤ◌, Result, Ok, Err}
-use Rattle.iv_base.specs.declared.IntKind.{IntKind}
-use Rattle.iv_base.specs.declared.IntKind.TheVariants.{U8, U16, U64, I8, I16, I64}
+use Rattle.iv_words.specs.declared.IntKind.{IntKind}
+use Rattle.iv_words.specs.declared.IntKind.TheVariants.{U8, U16, U64, I8, I16, I64}
 use Rattle.iv_script.specs.declared.Reason.{Reason}
 use Rattle.iv_script.specs.declared.Reason.TheVariants.{SignedOverflow, DivZero, Shift, Implementation}
 use Rattle.c_ast.specs.declared.Target.TheVariants.{T32}

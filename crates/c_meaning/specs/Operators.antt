@@ -6,7 +6,7 @@ use Rattle.std.specs.Int.{int_div_euclid}
 use Rattle.std.specs.Ordering.{int_eq}
 use Rattle.iv_script.specs.declared.Reason.{Reason}
 use Rattle.iv_script.specs.declared.Reason.TheVariants.{SignedOverflow, DivZero, Shift, Implementation}
-use Rattle.iv_base.specs.Kinds.{in_range_of, greatest_of}
+use Rattle.iv_words.specs.Kinds.{in_range_of, greatest_of}
 use Rattle.c_ast.specs.declared.Arith.{Arith}
 use Rattle.c_ast.specs.declared.Arith.TheVariants.{Int}
 use Rattle.c_ast.specs.declared.CKind.TheVariants.{Arith as Computed}
@@ -15,7 +15,8 @@ use Rattle.c_ast.specs.declared.CUnary.TheVariants.{Neg, Flip, Not}
 use Rattle.c_ast.specs.declared.CBinary.{CBinary}
 use Rattle.c_ast.specs.declared.CBinary.TheVariants.{Add, Sub, Mul, Div, Rem, And, Or, Xor, Shl, Shr, Eq, Ne, Lt, Le, Gt, Ge, AndAlso, OrElse}
 use Rattle.c_ast.specs.Targets.{TargetTable, arith_bits, arith_signed, promoted, common_type}
-use Rattle.c_ast.specs.Conversions.{modulo, converted}
+use Rattle.iv_words.specs.Bits.{modulo, two_to}
+use Rattle.c_ast.specs.Conversions.{converted}
 use Rattle.c_meaning.specs.Values.{CValue, Num, is_true, on_ok}
 
 -- ---- numbers in a type of so many bits, with or without sign
@@ -58,10 +59,6 @@ number_of_bits bits true n = if nat_lt n (2 ^ (bits - 1)) then pos n else pos n 
 -- bit by bit (6.5.10 to 6.5.12)
 abbrev pub bitwise : (ℕ → ℕ → ℕ) → Operator
 bitwise f bits signed a b = Ok (number_of_bits bits signed (f (bits_of bits a) (bits_of bits b)))
-
--- 2 to the power b, of a number b from 0
-abbrev pub two_to : ℤ → ℤ
-two_to b = pos (2 ^ unsigned_abs b)
 
 -- Shifts (6.5.7), by an amount from 0 to the width - 1. To the left: a * 2 ^ b; in a signed type a must not be negative.
 abbrev pub shifted_left : Operator

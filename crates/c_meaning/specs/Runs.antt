@@ -1,6 +1,6 @@
 -- Functions, entry calls, and the whole run of a unit.
 use Rattle.std.specs.Prelude.{ℕ, ℤ, List, [], ◌∷◌, Option, Some, None, ◌&&◌, not, if◌then◌else◌, Result, Ok, Err}
-use Rattle.iv_base.specs.Words.{same_word}
+use Rattle.iv_words.specs.Words.{same_word}
 use Rattle.iv_script.specs.declared.End.TheVariants.{Undefined}
 use Rattle.iv_script.specs.declared.Outcome.{Outcome}
 use Rattle.iv_script.specs.declared.Reason.{Reason}

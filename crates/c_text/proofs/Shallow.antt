@@ -3,8 +3,8 @@ use Rattle.std.proofs.Common.{◌≡◌, refl, subst, ℕ, ◌+◌, ◌*◌, Boo
 use Rattle.std.specs.Prelude.{codes, map, decimal}
 use Rattle.std.specs.List.{All}
 use Rattle.std.proofs.lemmas.List.Elements.{All-head, All-tail}
-use Rattle.iv_base.specs.declared.kind.IntKind.{IntKind}
-use Rattle.iv_base.specs.declared.kind.IntKind.TheVariants.{U8, U16, U32, U64, I8, I16, I32, I64}
+use Rattle.iv_words.specs.declared.kind.IntKind.{IntKind}
+use Rattle.iv_words.specs.declared.kind.IntKind.TheVariants.{U8, U16, U32, U64, I8, I16, I32, I64}
 use Rattle.c_ast.specs.declared.types.CScalar.{CScalar}
 use Rattle.c_ast.specs.declared.types.CScalar.TheVariants.{Truth, Int}
 use Rattle.c_ast.specs.declared.types.CType.{CType}

@@ -2,7 +2,7 @@
 -- and no keyword of C99 (6.4.1), type name of the subset or truth value.
 use Rattle.std.specs.Prelude.{◌≡◌, ℕ, ◌<◌, ◌≤◌, ◌==◌, ◌&&◌, ◌||◌, nat_le, Bool, false, List, [], ◌∷◌, length, codes, IsTrue}
 use Rattle.std.specs.List.{list_any, list_all}
-use Rattle.iv_base.specs.Words.{same_word}
+use Rattle.iv_words.specs.Words.{same_word}
 use Rattle.c_ast.specs.Names.{prefixed}
 
 abbrev pub is_between : ℕ → ℕ → ℕ → Bool

@@ -1,7 +1,7 @@
 -- When the names and types of a unit are right (C99 6.2.1, 6.5.2.2, 6.4.4.1, and the prefix of file scope): no name is declared
 -- twice, each call is of a function that is declared before it, with as many arguments as parameters, and each constant has a type.
 use Rattle.std.specs.Prelude.{◌≡◌, ◌≢◌, ℕ, List, [], ◌∷◌, ◌++◌, All, IsSome}
-use Rattle.iv_base.specs.declared.kind.IntKind.TheVariants.{U32}
+use Rattle.iv_words.specs.declared.kind.IntKind.TheVariants.{U32}
 use Rattle.c_ast.specs.declared.types.CScalar.TheVariants.{Int}
 use Rattle.c_ast.specs.declared.types.Target.{Target}
 use Rattle.c_ast.specs.declared.types.CType.{CType}

@@ -1,8 +1,8 @@
 -- The one text that spells a unit, byte for byte. So far it is written for units of externs and of functions that call them with
 -- constants; a form that is not written yet has no text, and no unit with one is in the subset.
 use Rattle.std.specs.Prelude.{ℕ, ◌*◌, Bool, if◌then◌else◌, List, [], ◌∷◌, ◌++◌, map, replicate, codes, decimal}
-use Rattle.iv_base.specs.declared.kind.IntKind.{IntKind}
-use Rattle.iv_base.specs.declared.kind.IntKind.TheVariants.{U8, U16, U32, U64, I8, I16, I32, I64}
+use Rattle.iv_words.specs.declared.kind.IntKind.{IntKind}
+use Rattle.iv_words.specs.declared.kind.IntKind.TheVariants.{U8, U16, U32, U64, I8, I16, I32, I64}
 use Rattle.c_ast.specs.declared.types.CScalar.{CScalar}
 use Rattle.c_ast.specs.declared.types.CScalar.TheVariants.{Truth, Int}
 use Rattle.c_ast.specs.declared.types.CType.{CType}

@@ -7,7 +7,8 @@ use crate::stmt::put_stmts;
 use crate::unit::put_unit;
 use crate::write_unit;
 use c_ast::{CCall, CExpr, CExtern, CFunction, CScalar, CStmt, CType, CUnit, Suffix};
-use iv_base::{IntKind, MemSink, Memory, Seq, SinkFault, Word};
+use iv_base::{MemSink, SinkFault};
+use iv_words::{IntKind, Memory, Seq, Word};
 use std::alloc::Global;
 use std::test::Fail;
 

@@ -6,7 +6,7 @@ ghost use Rattle.c_writer.specs.Stages.{Puts};
 
 use crate::pieces::Pieces;
 use c_ast::{CScalar, CType, Suffix};
-use iv_base::IntKind;
+use iv_words::IntKind;
 
 /// The name of a kind in `<stdint.h>`.
 pub fn kind_name(kind: IntKind) -> &'static [u8]

@@ -3,7 +3,7 @@ use Rattle.std.proofs.Common.{ℕ, ℤ, Bool, true, false, List, [], ◌∷◌, 
 use Rattle.std.specs.Prelude.{slice_get, IsTrue, if◌then◌else◌, All}
 use Rattle.std.proofs.lemmas.List.Elements.{All-head, All-tail}
 use Rattle.iv_script.specs.declared.Export.{Export}
-use Rattle.iv_base.specs.Words.{same_word}
+use Rattle.iv_words.specs.Words.{same_word}
 use Rattle.iv_script.specs.Scripts.{export_of, found_fits}
 use Rattle.step_semantics.specs.Control.{Falls}
 use Rattle.step_semantics.specs.Lawful.{Lawful}

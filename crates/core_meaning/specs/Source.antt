@@ -8,7 +8,7 @@ use Rattle.iv_script.specs.declared.Piece.TheVariants.{Value}
 use Rattle.iv_script.specs.declared.Export.{Export}
 use Rattle.iv_script.specs.declared.Outcome.{Outcome}
 use Rattle.iv_script.specs.declared.Script.{Script}
-use Rattle.iv_base.specs.Words.{same_word}
+use Rattle.iv_words.specs.Words.{same_word}
 use Rattle.step_semantics.specs.Steps.{NoMeaning, Part, give, halt, bind, tick}
 use Rattle.step_semantics.specs.Control.{Control, Falls, Broke, Returned, also}
 use Rattle.step_semantics.specs.Imports.{import_call}

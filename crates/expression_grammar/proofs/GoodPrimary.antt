@@ -1,9 +1,9 @@
 -- The readers of primaries and of what stands behind them, fields and elements, read what the grammar spells.
 use Rattle.std.proofs.Common.{◌≡◌, ℕ, suc, ◌≤◌, Bool, true, false, List, [], ◌∷◌, ◌++◌, inl, inr, refl, sym, ◌∙◌, subst, Option, Some, None}
 use Rattle.std.specs.Option.{option_map}
-use Rattle.iv_base.specs.declared.Span.{Span}
-use Rattle.iv_base.specs.declared.Name.{Name}
-use Rattle.iv_base.specs.declared.IntKind.TheVariants as int
+use Rattle.iv_words.specs.declared.Span.{Span}
+use Rattle.iv_words.specs.declared.Name.{Name}
+use Rattle.iv_words.specs.declared.IntKind.TheVariants as int
 use Rattle.ivory_lexer.specs.declared.Token.{Token}
 use Rattle.ivory_lexer.specs.declared.TokenKind.TheVariants as kind
 use Rattle.ivory_lexer.specs.declared.Mark.{Mark}

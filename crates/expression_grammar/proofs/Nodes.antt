@@ -1,8 +1,8 @@
 -- The nodes of a tree, each of its parts and the tokens that spell it.
 use Rattle.std.proofs.Common.{ℕ, pos, neg_ℤ, Bool, List, Option}
-use Rattle.iv_base.specs.declared.Span.{Span}
-use Rattle.iv_base.specs.declared.Name.{Name}
-use Rattle.iv_base.specs.declared.IntKind.{IntKind}
+use Rattle.iv_words.specs.declared.Span.{Span}
+use Rattle.iv_words.specs.declared.Name.{Name}
+use Rattle.iv_words.specs.declared.IntKind.{IntKind}
 use Rattle.ivory_lexer.specs.declared.Token.{Token}
 use Rattle.ivory_tree.specs.Syntax.{Word}
 use Rattle.ivory_tree.specs.declared.PrefixOp.{PrefixOp}

@@ -1,6 +1,6 @@
 -- The operators by their marks, and how tightly each binds.
 use Rattle.std.specs.Prelude.{ℕ, ◌==◌, Bool, if◌then◌else◌, Option, Some, None, is_some}
-use Rattle.iv_base.specs.declared.Span.{Span}
+use Rattle.iv_words.specs.declared.Span.{Span}
 use Rattle.ivory_lexer.specs.declared.Token.{Token}
 use Rattle.ivory_lexer.specs.declared.TokenKind.{TokenKind}
 use Rattle.ivory_lexer.specs.declared.TokenKind.TheVariants as kind

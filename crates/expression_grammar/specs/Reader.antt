@@ -1,9 +1,9 @@
 -- How expressions are read, from left to right. What nests is read by the readers of one level deeper, if there is one.
 use Rattle.std.specs.Prelude.{ℕ, zero, suc, pos, neg_ℤ, Bool, true, List, cond, Option, Some, None}
 use Rattle.std.specs.Option.{option_map}
-use Rattle.iv_base.specs.declared.Span.{Span}
-use Rattle.iv_base.specs.declared.Name.{Name}
-use Rattle.iv_base.specs.declared.IntKind.{IntKind}
+use Rattle.iv_words.specs.declared.Span.{Span}
+use Rattle.iv_words.specs.declared.Name.{Name}
+use Rattle.iv_words.specs.declared.IntKind.{IntKind}
 use Rattle.ivory_lexer.specs.declared.Token.{Token}
 use Rattle.ivory_lexer.specs.declared.Mark.{Mark}
 use Rattle.ivory_lexer.specs.declared.Mark.TheVariants as mark

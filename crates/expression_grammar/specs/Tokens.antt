@@ -1,9 +1,9 @@
 -- The tokens that rules speak of: by their mark or keyword, or by the value that they have.
 use Rattle.std.specs.Prelude.{ℕ, ◌==◌, Bool, true, false, List, Option, Some, None, is_some, length, slice_get, ◌-◌}
-use Rattle.iv_base.specs.declared.Span.{Span}
-use Rattle.iv_base.specs.declared.Name.{Name}
-use Rattle.iv_base.specs.declared.IntKind.{IntKind}
-use Rattle.iv_base.specs.declared.IntKind.TheVariants as int
+use Rattle.iv_words.specs.declared.Span.{Span}
+use Rattle.iv_words.specs.declared.Name.{Name}
+use Rattle.iv_words.specs.declared.IntKind.{IntKind}
+use Rattle.iv_words.specs.declared.IntKind.TheVariants as int
 use Rattle.ivory_lexer.specs.declared.Token.{Token}
 use Rattle.ivory_lexer.specs.declared.TokenKind.{TokenKind}
 use Rattle.ivory_lexer.specs.declared.TokenKind.TheVariants as kind

@@ -15,7 +15,7 @@ use crate::operator::{
 };
 use crate::parts::postfix;
 use crate::token::{mark, span_of, starts_mark};
-use iv_base::{Box, Memory, Seq, Span};
+use iv_words::{Box, Memory, Seq, Span};
 use ivory_lexer::{Mark, Token};
 use ivory_tree::{Expr, ExprKind, Link, PrefixOp};
 use std::alloc::Global;

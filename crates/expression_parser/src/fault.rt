@@ -1,7 +1,7 @@
 ghost use Rattle.std.specs.Prelude.{◌≡◌};
 ghost use Rattle.expression_parser.specs.declared.fault.Fault.TheVariants.{Memory};
 
-use iv_base::Memory;
+use iv_words::Memory;
 use ivory_lexer::Token;
 
 /// Why reading stopped. The tokens are those from the fault on.

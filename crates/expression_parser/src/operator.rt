@@ -6,7 +6,7 @@ ghost use Rattle.expression_grammar.specs.Operators as operators;
 ghost use Rattle.expression_parser.specs.Gives.{Gives};
 
 use crate::fault::Fault;
-use iv_base::Span;
+use iv_words::Span;
 use ivory_lexer::{Mark, Token, TokenKind};
 use ivory_tree::{BinOp, PrefixOp};
 

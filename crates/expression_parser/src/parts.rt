@@ -9,7 +9,7 @@ use crate::expr::expression;
 use crate::fault::Fault;
 use crate::primary::primary;
 use crate::token::{mark, name, span_of, starts_mark};
-use iv_base::{Box, Memory, Seq, Span};
+use iv_words::{Box, Memory, Seq, Span};
 use ivory_lexer::{Mark, Token, TokenKind};
 use ivory_tree::{Expr, ExprKind, Step};
 use std::alloc::Global;

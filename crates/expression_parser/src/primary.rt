@@ -10,7 +10,7 @@ use crate::fault::Fault;
 use crate::leaf::{negative_literal, number_literal, outcome, truth_literal, variable};
 use crate::token::{int_kind, keyword, mark, name, number, span_of, word};
 use expression_grammar::{PrimaryForm, primary_form};
-use iv_base::{Box, Name, Word};
+use iv_words::{Box, Name, Word};
 use ivory_lexer::{Key, Mark, Token};
 use ivory_tree::{Expr, ExprKind};
 use std::alloc::Global;

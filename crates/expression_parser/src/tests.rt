@@ -1,7 +1,7 @@
 //! Texts with the trees that are read of them, each node with its place, and faults with theirs.
 
 use super::*;
-use iv_base::Span;
+use iv_words::Span;
 use ivory_tree::{Expr, ExprKind, Step};
 use std::alloc::Global;
 use std::fmt::Write;

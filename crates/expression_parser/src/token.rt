@@ -6,7 +6,7 @@ ghost use Rattle.expression_grammar.specs.Reader.{mark_reader, key_reader};
 ghost use Rattle.expression_parser.specs.Gives.{Gives};
 
 use crate::fault::Fault;
-use iv_base::{IntKind, Name, Span, Word};
+use iv_words::{IntKind, Name, Span, Word};
 use ivory_lexer::{Key, Mark, Token, TokenKind};
 use std::alloc::Global;
 

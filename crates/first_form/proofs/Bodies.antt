@@ -1,6 +1,6 @@
 -- The statements of a block.
 use Rattle.std.proofs.Common.{◌≡◌, List, [], ◌∷◌, map, refl, sym, ap, ◌∙◌}
-use Rattle.iv_base.specs.declared.Span.{Span}
+use Rattle.iv_words.specs.declared.Span.{Span}
 use Rattle.ivory_tree.specs.Syntax.{StmtSyntax, BlockSyntax, Braces}
 use Rattle.ivory_tree.specs.View.{stmts_from, stmts_of, stmt_step, stmt_of, block_of}
 use Rattle.ivory_tree.specs.declared.stmt.Block.{Block, out-Block, fold_out-Block}

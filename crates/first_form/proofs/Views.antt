@@ -1,7 +1,7 @@
 -- What a match that found another form tells of the abstract syntax.
 use Rattle.std.proofs.Common.{◌≡◌, ℕ, pos, false, List, [], ◌∷◌, map, ap, refl, sym, ◌∙◌, subst}
-use Rattle.iv_base.specs.declared.IntKind.{IntKind}
-use Rattle.iv_base.specs.declared.Span.{Span}
+use Rattle.iv_words.specs.declared.IntKind.{IntKind}
+use Rattle.iv_words.specs.declared.Span.{Span}
 use Rattle.ivory_tree.specs.Syntax as syntax
 use Rattle.ivory_tree.specs.Syntax.{TypeSyntax, AreaSyntax, ExprSyntax}
 use Rattle.ivory_tree.specs.Places.{expr_span}

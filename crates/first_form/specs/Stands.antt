@@ -2,8 +2,8 @@
 -- statements calls an import with a number from 0 to 255 for each parameter, and names used as the language allows.
 use Rattle.std.specs.Prelude.{◌≡◌, ℕ, pos, ◌<◌, ◌^◌, Bool, true, false, IsTrue, List, [], ◌++◌, length, map, slice_get, Some, None, All, Contains}
 use Rattle.std.specs.List.{AllZip, list_all}
-use Rattle.iv_base.specs.declared.Span.{Span}
-use Rattle.iv_base.specs.declared.IntKind.TheVariants.{U8}
+use Rattle.iv_words.specs.declared.Span.{Span}
+use Rattle.iv_words.specs.declared.IntKind.TheVariants.{U8}
 use Rattle.ivory_tree.specs.Syntax.{Word, TypeSyntax, IntType, ExprSyntax, Literal, CallSyntax, StmtSyntax, Call, Braces, HeaderSyntax, ProcSyntax, ItemSyntax, BitsData, Struct, Global, Import, Procedure, ModuleSyntax}
 use Rattle.ivory_tree.specs.View.{stmts_from}
 use Rattle.first_form.specs.Valid.{AllDifferent}

@@ -1,7 +1,7 @@
 -- Names in the order in which they were noted, found by hashing.
 use Rattle.std.specs.Prelude.{◌≡◌, ℕ, Bool, List, [], ◌∷◌, ◌++◌, length, map, take, position, Option, if◌then◌else◌}
 use Rattle.std.specs.List.{list_any}
-use Rattle.iv_base.specs.Words.{same_word}
+use Rattle.iv_words.specs.Words.{same_word}
 use Rattle.first_form.specs.declared.first.FirstImport.{FirstImport}
 
 -- the place of the first name that is the same

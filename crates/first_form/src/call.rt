@@ -12,7 +12,7 @@ ghost use Rattle.first_form.specs.declared.first.FirstCall.{FirstCall};
 use crate::first::{FirstCall, FirstImport};
 use crate::names::Names;
 use crate::stop::Stop;
-use iv_base::Seq;
+use iv_words::Seq;
 use ivory_tree::{CallText, Expr, ExprKind, Stmt, StmtKind};
 use std::alloc::Global;
 

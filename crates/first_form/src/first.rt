@@ -1,4 +1,4 @@
-use iv_base::{Seq, Word};
+use iv_words::{Seq, Word};
 
 /// What a text of the first form stands for: its imports and its exported procedures, each in the order of the text.
 #[derive(Debug, Drop)]

@@ -14,7 +14,7 @@ use crate::items::{imports_first, names_of};
 use crate::names::table_of;
 use crate::procedure::first_procs;
 use crate::stop::Stop;
-use iv_base::Memory;
+use iv_words::Memory;
 use ivory_tree::Module;
 use std::alloc::Global;
 

@@ -12,7 +12,7 @@ ghost use Rattle.first_form.specs.declared.first.FirstImport.{FirstImport};
 use crate::first::FirstImport;
 use crate::names::{Names, table_of};
 use crate::stop::Stop;
-use iv_base::{IntKind, Memory, Seq, Word};
+use iv_words::{IntKind, Memory, Seq, Word};
 use ivory_tree::{Header, Item, Param, TypeKind, TypeText};
 use std::alloc::Global;
 

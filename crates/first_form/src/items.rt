@@ -6,7 +6,7 @@ ghost use Rattle.ivory_tree.specs.View.{item_of};
 ghost use Rattle.first_form.specs.Parts as parts;
 ghost use Rattle.first_form.specs.Stands as stands;
 
-use iv_base::{Memory, Seq, Word};
+use iv_words::{Memory, Seq, Word};
 use ivory_tree::Item;
 use std::alloc::Global;
 

@@ -8,7 +8,7 @@ ghost use Rattle.first_form.specs.Answers.{IfRefused};
 
 use crate::stop::Stop;
 use indexmap::IndexSet;
-use iv_base::{Memory, Word};
+use iv_words::{Memory, Word};
 use std::alloc::Global;
 use std::marker::Model;
 

@@ -14,7 +14,7 @@ use crate::call::first_calls;
 use crate::first::{FirstImport, FirstProc};
 use crate::names::Names;
 use crate::stop::Stop;
-use iv_base::Seq;
+use iv_words::Seq;
 use ivory_tree::{Item, ProcItem};
 use std::alloc::Global;
 

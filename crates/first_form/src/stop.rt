@@ -1,4 +1,4 @@
-use iv_base::Memory;
+use iv_words::Memory;
 
 /// Why there is no module of the first form: want of memory, or a tree that stands for none.
 #[derive(Clone, Copy, Debug, Drop, PartialEq, Eq)]

@@ -3,7 +3,7 @@ ghost use Rattle.ivory_tree.specs.Nodes.{module_nodes, nodes_count, node_count, 
 ghost use Rattle.ivory_tree.specs.View.{module_of, item_of, stmt_of, param_of, type_of};
 
 use crate::{FirstCall, FirstModule, first_form};
-use iv_base::{IntKind, Memory, Name, Seq, Span, Word};
+use iv_words::{IntKind, Memory, Name, Seq, Span, Word};
 use ivory_tree::{
     Block, CallText, Expr, ExprKind, Header, Item, Module, Param, ProcItem, Stmt, StmtKind,
     TypeKind, TypeText,

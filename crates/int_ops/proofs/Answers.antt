@@ -5,10 +5,11 @@ use Rattle.std.specs.Ordering.{int_eq}
 use Rattle.std.proofs.lemmas.Int.{ints}
 use Rattle.std.proofs.lemmas.Nat.{and_le_l, or_lt, xor_lt, pow_pos, mod_below, shr_le}
 use Rattle.std.proofs.Math.Nat.{mod-le}
-use Rattle.iv_base.specs.Kinds.{in_range_of, width, is_signed, in_range}
-use Rattle.iv_base.specs.declared.kind.IntKind.{IntKind}
-use Rattle.iv_base.specs.declared.kind.IntKind.TheVariants.{U8, U16, U32, U64, I8, I16, I32, I64}
-use Rattle.int_ops.specs.Operators.{IsKindWidth, modulo, two_to, truth, is_allowed_at, is_allowed, is_binary, exact_at, exact}
+use Rattle.iv_words.specs.Kinds.{in_range_of, width, is_signed, in_range}
+use Rattle.iv_words.specs.declared.kind.IntKind.{IntKind}
+use Rattle.iv_words.specs.declared.kind.IntKind.TheVariants.{U8, U16, U32, U64, I8, I16, I32, I64}
+use Rattle.iv_words.specs.Bits.{modulo, two_to}
+use Rattle.int_ops.specs.Operators.{IsKindWidth, truth, is_allowed_at, is_allowed, is_binary, exact_at, exact}
 use Rattle.int_ops.specs.declared.operator.Op.{Op}
 use Rattle.int_ops.specs.declared.operator.Op.TheVariants.{Add, Sub, Mul, Div, Rem, Shl, Shr, And, Or, Xor, Neg, Not, WrapAdd, WrapSub, WrapMul, Eq, Ne, Lt, Le, Gt, Ge}
 use Rattle.int_ops.specs.declared.operator.Stop.{Stop}

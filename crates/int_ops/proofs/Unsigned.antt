@@ -4,7 +4,7 @@ use Rattle.std.specs.Prelude.{bit_or, bit_xor}
 use Rattle.std.proofs.lemmas.Int.{ints, to_z_pos}
 use Rattle.std.proofs.lemmas.Nat.{or_lt, xor_lt}
 use mir.Syntax.{w128}
-use Rattle.iv_base.specs.Kinds.{in_range_of}
+use Rattle.iv_words.specs.Kinds.{in_range_of}
 use Rattle.int_ops.specs.Operators.{IsKindWidth, bitwise}
 
 below : (bits n : ℕ) → IsKindWidth bits → IsTrue (in_range_of bits false (pos n)) → n < 2 ^ 64

@@ -2,7 +2,7 @@
 use Rattle.std.proofs.Common.{◌≡◌, ℕ, ◌^◌, ℤ, pos, negsuc, ◌+ℤ◌, ◌-ℤ◌, neg_ℤ, ◌<ℤ◌, Bool, true, false, IsTrue, arith, to_z, of_z}
 use Rattle.std.proofs.lemmas.Int.{ints}
 use mir.Syntax.{w128}
-use Rattle.iv_base.specs.Kinds.{in_range_of}
+use Rattle.iv_words.specs.Kinds.{in_range_of}
 use Rattle.int_ops.specs.Operators.{IsKindWidth}
 
 pub record IsWide (v : ℤ) : Type 0 where

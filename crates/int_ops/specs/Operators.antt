@@ -2,10 +2,11 @@
 -- without a bound. The arithmetic is that of C99 6.5.3.3 and 6.5.5 to 6.5.12, but a number that the kind does not have stops
 -- the signed and the unsigned kinds alike, and so do a quotient by 0 and a shift by the width, which C99 leaves undefined.
 use Rattle.std.specs.Prelude.{ℕ, ◌^◌, ◌≡◌, ◌⊎◌, ℤ, pos, ◌+ℤ◌, ◌-ℤ◌, ◌*ℤ◌, neg_ℤ, unsigned_abs, int_le, int_lt, int_div, bit_and, bit_or, bit_xor, Bool, true, false, not, if◌then◌else◌, Result, Ok, Err}
-use Rattle.std.specs.Int.{int_div_euclid, int_rem_euclid}
+use Rattle.std.specs.Int.{int_div_euclid}
 use Rattle.std.specs.Ordering.{int_eq}
-use Rattle.iv_base.specs.Kinds.{in_range_of, width, is_signed, greatest_of}
-use Rattle.iv_base.specs.declared.kind.IntKind.{IntKind}
+use Rattle.iv_words.specs.Bits.{modulo, two_to}
+use Rattle.iv_words.specs.Kinds.{in_range_of, width, is_signed, greatest_of}
+use Rattle.iv_words.specs.declared.kind.IntKind.{IntKind}
 use Rattle.int_ops.specs.declared.operator.Op.{Op}
 use Rattle.int_ops.specs.declared.operator.Op.TheVariants.{Add, Sub, Mul, Div, Rem, Shl, Shr, And, Or, Xor, Neg, Not, WrapAdd, WrapSub, WrapMul, Eq, Ne, Lt, Le, Gt, Ge}
 use Rattle.int_ops.specs.declared.operator.Stop.{Stop}
@@ -55,14 +56,6 @@ abbrev pub remainder : ℕ → Bool → ℤ → ℤ → Result ℤ Stop
 remainder bits signed a b =
     if int_eq b (pos 0) then Err DivZero
     else (if in_range_of bits signed (int_div a b) then Ok (a -ℤ int_div a b *ℤ b) else Err Overflow)
-
--- the number from 0 to 2 ^ bits - 1 that differs from v by a multiple of 2 ^ bits
-abbrev pub modulo : ℕ → ℤ → ℤ
-modulo bits v = int_rem_euclid v (pos (2 ^ bits))
-
--- 2 to the power b, of a number b from 0
-abbrev pub two_to : ℤ → ℤ
-two_to b = pos (2 ^ unsigned_abs b)
 
 -- a shift's answer, where it is by less than the width
 abbrev pub shifted : ℕ → ℤ → ℤ → Result ℤ Stop

@@ -1,12 +1,12 @@
 //! Which numbers a kind has, and what an operator answers on them.
 
 ghost use Rattle.std.specs.Prelude.{◌≡◌, IsTrue, IfOk};
-ghost use Rattle.iv_base.specs.Kinds.{in_range_of, in_range};
+ghost use Rattle.iv_words.specs.Kinds.{in_range_of, in_range};
 ghost use Rattle.int_ops.specs.Operators.{IsKindWidth, is_allowed_at, is_binary, exact_at, is_allowed, exact};
 
 use crate::operator::{Op, Stop};
 use crate::range::Range;
-use iv_base::IntKind;
+use iv_words::IntKind;
 
 impl<const BITS: u32, const SIGNED: bool> Range<BITS, SIGNED> {
     fn answer(op: Op, a: i128, b: i128) -> Result<i128, Stop>

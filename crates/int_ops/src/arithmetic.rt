@@ -1,7 +1,7 @@
 //! Arithmetic on a range, exact, or stopped where the range has no answer.
 
 ghost use Rattle.std.specs.Prelude.{◌≡◌, ◌+ℤ◌, ◌-ℤ◌, ◌*ℤ◌, neg_ℤ, IsTrue};
-ghost use Rattle.iv_base.specs.Kinds.{in_range_of};
+ghost use Rattle.iv_words.specs.Kinds.{in_range_of};
 ghost use Rattle.int_ops.specs.Operators.{IsKindWidth, fitted, quotient, remainder};
 
 use crate::operator::Stop;

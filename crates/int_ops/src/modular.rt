@@ -2,8 +2,9 @@
 
 ghost use Rattle.std.specs.Prelude.{◌≡◌, pos, ◌*ℤ◌, int_lt, IsTrue, false};
 ghost use Rattle.std.specs.Int.{int_div_euclid};
-ghost use Rattle.iv_base.specs.Kinds.{in_range_of};
-ghost use Rattle.int_ops.specs.Operators.{IsKindWidth, shifted, modulo, two_to};
+ghost use Rattle.iv_words.specs.Kinds.{in_range_of};
+ghost use Rattle.iv_words.specs.Bits.{modulo, two_to};
+ghost use Rattle.int_ops.specs.Operators.{IsKindWidth, shifted};
 
 use crate::operator::Stop;
 use crate::range::Range;

@@ -1,10 +1,10 @@
 //! The operators, the reasons why one stops, and which kinds have which operators.
 
 ghost use Rattle.std.specs.Prelude.{◌≡◌};
-ghost use Rattle.iv_base.specs.Kinds.{is_signed};
+ghost use Rattle.iv_words.specs.Kinds.{is_signed};
 ghost use Rattle.int_ops.specs.Operators.{is_allowed};
 
-use iv_base::IntKind;
+use iv_words::IntKind;
 
 /// An operator on whole numbers. `Neg` and `Not` are the prefix `-` and `~`, and have one operand.
 #[derive(Clone, Copy, Debug, Drop, PartialEq, Eq)]

@@ -1,7 +1,7 @@
 //! The range of the whole numbers of one width and sign.
 
 ghost use Rattle.std.specs.Prelude.{◌≡◌};
-ghost use Rattle.iv_base.specs.Kinds.{in_range_of, least_of, greatest_of};
+ghost use Rattle.iv_words.specs.Kinds.{in_range_of, least_of, greatest_of};
 ghost use Rattle.int_ops.specs.Operators.{IsKindWidth, fitted};
 
 use crate::operator::Stop;

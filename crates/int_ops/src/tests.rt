@@ -1,5 +1,5 @@
 use super::*;
-use iv_base::IntKind;
+use iv_words::IntKind;
 use std::process::Abort;
 
 type Answer = Result<i128, Stop>;

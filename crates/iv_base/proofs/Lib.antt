@@ -1,4 +1,3 @@
-pub mod Columns
 pub mod Digits
 pub mod Prefixes
 pub mod Tables

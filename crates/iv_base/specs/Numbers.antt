@@ -2,7 +2,7 @@
 use Rattle.std.specs.Prelude.{ℕ, ◌+◌, ◌-◌, ◌*◌, ℤ, pos, ◌-ℤ◌, Bool, true, ◌&&◌, if◌then◌else◌, int_le, nat_eq, nat_lt, List, [], ◌∷◌, length, Option, Some, None}
 use Rattle.std.specs.Char.{is_ascii_digit}
 use Rattle.std.specs.List.{list_all, fold}
-use Rattle.iv_base.specs.Kinds.{least_of, greatest_of}
+use Rattle.iv_words.specs.Kinds.{least_of, greatest_of}
 
 abbrev pub are_digits : List ℕ → Bool
 are_digits bs = nat_lt 0 (length bs) && nat_lt (length bs) 40 && list_all is_ascii_digit bs

@@ -3,7 +3,7 @@ ghost use Rattle.iv_base.specs.Counts.{capped};
 ghost use Rattle.iv_base.specs.Stores.{HasLoadCause};
 
 use crate::store::{LoadFault, Store};
-use crate::word::Word;
+use iv_words::Word;
 use std::alloc::Global;
 use std::io::{Error, ErrorKind, Read};
 use std::rt::Files;
@@ -106,7 +106,7 @@ impl<R: Files> Store for FileStore<R> {
 #[cfg(test)]
 mod tests {
     use super::*;
-    use crate::memory::Memory;
+    use iv_words::Memory;
 
     fn word(alloc: Global, text: &[u8]) -> Result<Word, Memory> {
         let mut word = Word::new(alloc);

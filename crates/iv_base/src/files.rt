@@ -3,10 +3,8 @@ ghost use Rattle.std.specs.Option.{option_map};
 ghost use Rattle.iv_base.specs.Stores.{file_of, with_first};
 ghost use Rattle.iv_base.specs.Tables.{map_of};
 
-use crate::memory::Memory;
-use crate::seq::Seq;
 use crate::store::File;
-use crate::word::Word;
+use iv_words::{Memory, Seq, Word};
 use std::alloc::Global;
 use std::collections::HashMap;
 

@@ -3,9 +3,8 @@ ghost use Rattle.iv_base.specs.Counts.{capped};
 ghost use Rattle.iv_base.specs.MemSinks.{after, refused};
 ghost use Rattle.iv_base.specs.Sinks.{HasCause, grown, GrewByPrefix};
 
-use crate::memory::Memory;
-use crate::seq::Seq;
 use crate::sink::{Sink, SinkFault};
+use iv_words::{Memory, Seq};
 use std::alloc::Global;
 use std::marker::Model;
 

@@ -5,10 +5,8 @@ ghost use Rattle.iv_base.specs.Stores.{file_of, Gives, HasLoadCause};
 ghost use Rattle.iv_base.specs.Tables.{map_of};
 
 use crate::files::Files;
-use crate::memory::Memory;
-use crate::seq::Seq;
 use crate::store::{File, LoadFault, Store};
-use crate::word::Word;
+use iv_words::{Memory, Seq, Word};
 use std::alloc::Global;
 
 /// Tells what it holds, and fails where it is told to and on names that it lacks.

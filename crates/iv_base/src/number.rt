@@ -65,8 +65,7 @@ fn is_unsigned(bytes: &[u8]) -> bool
 mod tests {
     use super::*;
     use crate::mem_sink::MemSink;
-    use crate::memory::Memory;
-    use crate::seq::Seq;
+    use iv_words::{Memory, Seq};
 
     #[test]
     fn puts_decimal_texts(rt: HostRuntime) -> Result<(), Memory> {

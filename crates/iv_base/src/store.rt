@@ -1,7 +1,6 @@
 ghost use Rattle.std.specs.Prelude.{◌≡◌, ℕ, ◌+◌, ◌<◌, ◌≤◌, ◌^◌, length, Option, IfOk};
 
-use crate::memory::Memory;
-use crate::word::Word;
+use iv_words::{Memory, Word};
 use std::alloc::Global;
 use thiserror::Error;
 

@@ -5,10 +5,8 @@ ghost use Rattle.iv_base.specs.Stores.{file_of, Gives, HasLoadCause};
 ghost use Rattle.iv_base.specs.Tables.{map_of};
 
 use crate::files::Files;
-use crate::memory::Memory;
-use crate::seq::Seq;
 use crate::store::{File, LoadFault, Store};
-use crate::word::Word;
+use iv_words::{Memory, Seq, Word};
 use std::alloc::Global;
 
 /// Tells what it holds, gives the empty text for a name that it lacks, and never fails but for want of memory.

@@ -1,7 +1,7 @@
 -- When the values that a script gives fit the types that are wanted, and when a whole script fits what a module exports.
 use Rattle.std.specs.Prelude.{ℕ, ℤ, pos, Bool, true, false, ◌&&◌, if◌then◌else◌, int_le, List, [], ◌∷◌, Option, Some, None, IsTrue}
-use Rattle.iv_base.specs.Words.{same_word}
-use Rattle.iv_base.specs.Kinds.{in_range}
+use Rattle.iv_words.specs.Words.{same_word}
+use Rattle.iv_words.specs.Kinds.{in_range}
 use Rattle.iv_script.specs.declared.script.Plain.{Plain}
 use Rattle.iv_script.specs.declared.script.Plain.TheVariants.{Truth, Int}
 use Rattle.iv_script.specs.declared.script.Export.{Export}

@@ -1,4 +1,4 @@
-use iv_base::{IntKind, Seq, Word};
+use iv_words::{IntKind, Seq, Word};
 
 /// A type whose values a script can write: a truth, or a whole number of a kind.
 #[derive(Clone, Copy, Debug, Drop, PartialEq, Eq)]

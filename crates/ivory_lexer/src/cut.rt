@@ -14,7 +14,7 @@ use crate::keyword::key_of;
 use crate::piece::Piece;
 use crate::scan::longest_piece;
 use crate::token::{Token, TokenKind};
-use iv_base::{Memory, Seq, Span, Word};
+use iv_words::{Memory, Seq, Span, Word};
 use std::alloc::Global;
 
 /// The most bytes that a name has.

@@ -1,4 +1,4 @@
-use iv_base::Memory;
+use iv_words::Memory;
 
 /// Why a text has no tokens. Each place is that of the fault's first byte, counted from 0.
 #[derive(Clone, Copy, Debug, Drop, PartialEq, Eq)]

@@ -1,7 +1,7 @@
 //! Texts with their tokens or their fault, each with its place.
 
 use super::*;
-use iv_base::Span;
+use iv_words::Span;
 use std::alloc::Global;
 use std::fmt::Write;
 use std::test::Fail;

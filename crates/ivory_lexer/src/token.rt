@@ -2,7 +2,7 @@ ghost use Rattle.std.specs.Prelude.{◌≡◌, IfOk};
 
 use crate::key::Key;
 use crate::mark::Mark;
-use iv_base::{Copied, Memory, Span, Word};
+use iv_words::{Copied, Memory, Span, Word};
 use std::alloc::Global;
 
 /// A token and the bytes that it stands on.

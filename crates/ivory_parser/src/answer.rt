@@ -7,7 +7,7 @@ ghost use Rattle.ivory_parser.specs.Laws.{OfOrderedTokens};
 
 use crate::module::whole_module;
 use expression_parser::Fault;
-use iv_base::Seq;
+use iv_words::Seq;
 use ivory_lexer::Token;
 use ivory_tree::Module;
 use std::alloc::Global;

@@ -10,7 +10,7 @@ ghost use Rattle.module_grammar.specs.StatementReader as statements;
 ghost use Rattle.module_grammar.specs.ItemReader as reader;
 
 use expression_parser::{Fault, mark, name, span_of, starts_mark};
-use iv_base::{Seq, Span};
+use iv_words::{Seq, Span};
 use ivory_lexer::{Mark, Token};
 use ivory_tree::{Header, Param, TypeText};
 use statement_parser::type_text;

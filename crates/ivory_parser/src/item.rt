@@ -8,7 +8,7 @@ ghost use Rattle.module_grammar.specs.ItemReader as reader;
 use crate::header::header;
 use crate::parts::{bit_fields, contracts, struct_fields};
 use expression_parser::{Fault, int_kind, keyword, mark, name, span_of};
-use iv_base::Seq;
+use iv_words::Seq;
 use ivory_lexer::{Key, Mark, Token};
 use ivory_tree::{AreaField, AreaItem, BitField, BitsItem, Header, Item, ProcItem, StructItem};
 use module_grammar::{ItemForm, item_form};

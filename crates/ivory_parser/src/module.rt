@@ -7,7 +7,7 @@ ghost use Rattle.module_grammar.specs.ItemReader as reader;
 
 use crate::item::item;
 use expression_parser::{Fault, keyword, mark, name, span_of};
-use iv_base::Seq;
+use iv_words::Seq;
 use ivory_lexer::{Key, Mark, Token};
 use ivory_tree::{Item, Module};
 use std::alloc::Global;

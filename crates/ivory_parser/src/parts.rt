@@ -11,7 +11,7 @@ ghost use Rattle.module_grammar.specs.Tokens.{width_of, before_of, begins_contra
 ghost use Rattle.module_grammar.specs.ItemReader as reader;
 
 use expression_parser::{Fault, mark, name, span_of, starts_mark, starts_name, within};
-use iv_base::Seq;
+use iv_words::Seq;
 use ivory_lexer::{Key, Mark, Token, TokenKind};
 use ivory_tree::{AreaField, BitField, Contract};
 use statement_parser::area_text;

@@ -1,6 +1,6 @@
 -- A chain with one link more has the chain before it as its left operand, and so has a postfix with one step more.
 use Rattle.std.proofs.Common.{◌≡◌, List, [], ◌∷◌, ◌++◌, refl, ap, sym, ◌∙◌}
-use Rattle.iv_base.specs.declared.Span.{Span}
+use Rattle.iv_words.specs.declared.Span.{Span}
 use Rattle.ivory_tree.specs.Syntax.{ExprSyntax, Binary}
 use Rattle.ivory_tree.specs.Places.{expr_span}
 use Rattle.ivory_tree.specs.View.{LinkSyntax, StepSyntax, prefix_span, linked, step_span, part_of, stepped}

@@ -1,7 +1,7 @@
 -- A tree stands in the abstract syntax at its own place.
 use Rattle.std.proofs.Common.{◌≡◌, List, [], ◌∷◌, ap, refl, ◌∙◌}
 use Rattle.std.specs.Prelude.{Option, Some, None}
-use Rattle.iv_base.specs.declared.Span.{Span}
+use Rattle.iv_words.specs.declared.Span.{Span}
 use Rattle.ivory_tree.specs.Syntax as syntax
 use Rattle.ivory_tree.specs.Syntax.{TypeSyntax, AreaSyntax, ExprSyntax, StmtSyntax, BlockSyntax}
 use Rattle.ivory_tree.specs.Places.{type_span, area_span, expr_span, stmt_span, block_span}

@@ -2,9 +2,9 @@
 use Rattle.std.proofs.Common.{◌≡◌, ℕ, ℤ, Bool, List, map, ap, sym, ◌∙◌}
 use Rattle.std.specs.Prelude.{Option, Some, None}
 use Rattle.std.specs.Option.{option_map}
-use Rattle.iv_base.specs.declared.IntKind.{IntKind}
-use Rattle.iv_base.specs.declared.Name.{Name}
-use Rattle.iv_base.specs.declared.Span.{Span}
+use Rattle.iv_words.specs.declared.IntKind.{IntKind}
+use Rattle.iv_words.specs.declared.Name.{Name}
+use Rattle.iv_words.specs.declared.Span.{Span}
 use Rattle.ivory_tree.specs.Syntax as syntax
 use Rattle.ivory_tree.specs.Syntax.{Word, TypeSyntax, AreaSyntax, ExprSyntax, InitSyntax, StmtSyntax, BlockSyntax}
 use Rattle.ivory_tree.specs.View.{RefSyntax, type_kind_of, area_kind_of, ref_of, type_of, area_of, type_step, area_step, expr_kind_of, expr_of, link_of, step_of, expr_step, step_step, chain_from, postfix_from, LinkSyntax, StepSyntax, FieldStep, IndexStep, init_of, inits_of, init_step, call_of, stmt_kind_of, stmt_of, block_of, stmts_of, stmts_from, stmt_step}

@@ -1,6 +1,6 @@
 -- Small trees: what they say, how many nodes they have, and whether they have the form of a text's tree.
 use Rattle.std.specs.Prelude.{◌≡◌, ℕ, pos, [], ◌∷◌, false, codes}
-use Rattle.iv_base.specs.declared.Span.{Span}
+use Rattle.iv_words.specs.declared.Span.{Span}
 use Rattle.ivory_tree.specs.Syntax.{RefType, AreaSyntax, StoredArea, ExprSyntax, Literal, Variable, Binary, Field, Element}
 use Rattle.ivory_tree.specs.View.{LinkSyntax, FieldStep, IndexStep, chain_from, postfix_from}
 use Rattle.ivory_tree.specs.Nodes.{At, Nil, two, expr_node, node_count}

@@ -2,9 +2,9 @@
 -- A chain is nested to the left here, and so are the fields and indices after an operand: each prefix is a node with its place.
 -- Types without trees in them, as RegionText and BitsItem, are used as they are declared.
 use Rattle.std.specs.Prelude.{ℕ, ℤ, Bool, List, Option}
-use Rattle.iv_base.specs.declared.IntKind.{IntKind}
-use Rattle.iv_base.specs.declared.Name.{Name}
-use Rattle.iv_base.specs.declared.Span.{Span}
+use Rattle.iv_words.specs.declared.IntKind.{IntKind}
+use Rattle.iv_words.specs.declared.Name.{Name}
+use Rattle.iv_words.specs.declared.Span.{Span}
 use Rattle.ivory_tree.specs.declared.types.RegionText.{RegionText}
 use Rattle.ivory_tree.specs.declared.expr.PrefixOp.{PrefixOp}
 use Rattle.ivory_tree.specs.declared.expr.BinOp.{BinOp}

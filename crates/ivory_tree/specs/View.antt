@@ -1,8 +1,8 @@
 -- What each tree says in the abstract syntax, by the trees' own folds.
 use Rattle.std.specs.Prelude.{Bool, List, [], ◌∷◌, map, Option, Some, None}
 use Rattle.std.specs.Option.{option_map}
-use Rattle.iv_base.specs.declared.Name.{Name}
-use Rattle.iv_base.specs.declared.Span.{Span}
+use Rattle.iv_words.specs.declared.Name.{Name}
+use Rattle.iv_words.specs.declared.Span.{Span}
 use Rattle.ivory_tree.specs.Syntax as syntax
 use Rattle.ivory_tree.specs.Syntax.{TypeSyntax, AreaSyntax, ExprSyntax, InitSyntax, InitsSyntax, NoInits, MoreInits, CallSyntax, StmtSyntax, BlockSyntax, Braces, StmtsSyntax, NoStmts, MoreStmts, FieldSyntax, StructSyntax, GlobalSyntax, ParamSyntax, HeaderSyntax, ContractSyntax, ProcSyntax, ItemSyntax, ModuleSyntax}
 use Rattle.ivory_tree.specs.Places.{expr_span}

@@ -1,6 +1,6 @@
 ghost use Rattle.std.specs.Prelude.{◌≡◌, IfOk};
 
-use iv_base::{Box, Copied, IntKind, Memory, Name, Seq, Span, Word};
+use iv_words::{Box, Copied, IntKind, Memory, Name, Seq, Span, Word};
 use std::alloc::Global;
 
 /// An operator before its operand: `-`, `!`, `~` or `*`, in this order.

@@ -1,7 +1,7 @@
 ghost use Rattle.std.specs.Prelude.{◌≡◌, IfOk};
 
 use crate::expr::Expr;
-use iv_base::{Copied, Memory, Seq, Span};
+use iv_words::{Copied, Memory, Seq, Span};
 use std::alloc::Global;
 
 /// The first value of an area: an expression for a stored value, or one initializer for each element or field from the

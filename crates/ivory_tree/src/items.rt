@@ -4,7 +4,7 @@ use crate::expr::Expr;
 use crate::inits::InitText;
 use crate::stmt::Block;
 use crate::types::{AreaText, TypeText};
-use iv_base::{Copied, IntKind, Memory, Name, Seq, Span};
+use iv_words::{Copied, IntKind, Memory, Name, Seq, Span};
 use std::alloc::Global;
 
 /// A field of bit data with its width in bits; `truth` where it is declared as `bool`, of one bit.

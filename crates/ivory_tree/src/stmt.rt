@@ -3,7 +3,7 @@ ghost use Rattle.std.specs.Prelude.{◌≡◌, IfOk};
 use crate::expr::Expr;
 use crate::inits::InitText;
 use crate::types::AreaText;
-use iv_base::{Copied, Memory, Name, Seq, Span};
+use iv_words::{Copied, Memory, Name, Seq, Span};
 use std::alloc::Global;
 
 /// A call of an import or of an earlier procedure, with its arguments, from the name to the `)`.

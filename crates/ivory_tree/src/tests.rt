@@ -3,7 +3,7 @@ use crate::{
     Link, Module, Param, PrefixOp, ProcItem, RefText, RegionText, Step, Stmt, StmtKind, TypeKind,
     TypeText,
 };
-use iv_base::{Box, IntKind, Memory, Name, Seq, Span, Word};
+use iv_words::{Box, IntKind, Memory, Name, Seq, Span, Word};
 use std::alloc::Global;
 
 fn at(start: u32, end: u32) -> Span {

@@ -1,6 +1,6 @@
 ghost use Rattle.std.specs.Prelude.{◌≡◌, IfOk};
 
-use iv_base::{Box, Copied, IntKind, Memory, Span, Word};
+use iv_words::{Box, Copied, IntKind, Memory, Span, Word};
 use std::alloc::Global;
 
 /// Where the area of a reference lives: in the module, or in a region that a procedure has a name for.

@@ -1,6 +1,6 @@
 -- The command line: which lists of words are a command, and which one.
 use Rattle.std.specs.Prelude.{ℕ, Bool, true, false, ◌&&◌, if◌then◌else◌, List, [], ◌∷◌, Option, Some, None, codes}
-use Rattle.iv_base.specs.Words.{same_word}
+use Rattle.iv_words.specs.Words.{same_word}
 use Rattle.ivoryc.specs.declared.command.Command.{Command}
 use Rattle.ivoryc.specs.declared.command.Command.TheVariants.{Emit}
 

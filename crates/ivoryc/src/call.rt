@@ -6,7 +6,8 @@ use crate::command::{Command, words_of};
 use crate::emit::emit;
 use crate::refusal::{Refusal, report};
 use crate::status::Status;
-use iv_base::{Seq, Sink, Store, Word};
+use iv_base::{Sink, Store};
+use iv_words::{Seq, Word};
 use std::alloc::Global;
 
 /// One call of the program: does what the words ask for.

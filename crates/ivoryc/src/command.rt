@@ -1,7 +1,7 @@
 ghost use Rattle.std.specs.Prelude.{◌≡◌, [], ◌∷◌, length, IfOk};
 ghost use Rattle.ivoryc.specs.Commands.{command};
 
-use iv_base::{Memory, Seq, Word};
+use iv_words::{Memory, Seq, Word};
 use std::alloc::Global;
 
 /// What the words of a command line ask for.

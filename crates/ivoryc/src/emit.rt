@@ -10,7 +10,8 @@ use c_ast::{CUnit, Target};
 use c_lower::lower;
 use c_writer::write_unit;
 use first_form::first_form;
-use iv_base::{Sink, Store, Word};
+use iv_base::{Sink, Store};
+use iv_words::Word;
 use module_text::{SOURCE_LIMIT, read_module};
 use std::alloc::Global;
 

@@ -4,7 +4,8 @@ ghost use Rattle.module_text.specs.Lines.{fault_line};
 ghost use Rattle.ivoryc.specs.declared.status.Status.TheVariants.{Refused as refused};
 
 use crate::status::Status;
-use iv_base::{LoadFault, Memory, Sink, SinkFault};
+use iv_base::{LoadFault, Sink, SinkFault};
+use iv_words::Memory;
 use module_text::{Fault, TextFault};
 
 /// Why a command was not done.

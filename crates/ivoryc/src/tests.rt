@@ -2,7 +2,8 @@
 
 use crate::call::ivoryc;
 use crate::status::Status;
-use iv_base::{File, MemSink, MemStore, Memory, Seq, Word};
+use iv_base::{File, MemSink, MemStore};
+use iv_words::{Memory, Seq, Word};
 use std::alloc::Global;
 
 /// How a call ended, and what it wrote.

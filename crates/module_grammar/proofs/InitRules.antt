@@ -1,6 +1,6 @@
 -- The productions of initializers, put together from languages: they spell what the relation says.
 use Rattle.std.proofs.Common.{ℕ, suc, List, [], ◌∷◌, ◌++◌, inl, inr, refl, sym, ap, ◌∙◌, append_assoc}
-use Rattle.iv_base.specs.declared.Span.{Span}
+use Rattle.iv_words.specs.declared.Span.{Span}
 use Rattle.ivory_lexer.specs.declared.Token.{Token}
 use Rattle.ivory_lexer.specs.declared.Mark.TheVariants as mark
 use Rattle.ivory_tree.specs.declared.InitText.{InitText}

@@ -1,6 +1,6 @@
 -- The productions of items and modules, put together from languages: they spell what the relations say.
 use Rattle.std.proofs.Common.{ℕ, suc, Bool, List, ◌++◌, inl, inr, refl, sym, ap, ◌∙◌, Option, is_some}
-use Rattle.iv_base.specs.declared.Span.{Span}
+use Rattle.iv_words.specs.declared.Span.{Span}
 use Rattle.ivory_lexer.specs.declared.Token.{Token}
 use Rattle.ivory_lexer.specs.declared.Mark.TheVariants as mark
 use Rattle.ivory_lexer.specs.declared.Key.TheVariants as key

@@ -1,7 +1,7 @@
 -- The productions of the parts of items, put together from languages: they spell what the relation says, and begin with a name,
 -- or with a contract's keyword.
 use Rattle.std.proofs.Common.{ℕ, suc, ◌++◌, refl, ap, ◌∙◌}
-use Rattle.iv_base.specs.declared.Name.{Name}
+use Rattle.iv_words.specs.declared.Name.{Name}
 use Rattle.ivory_lexer.specs.declared.Token.{Token}
 use Rattle.ivory_lexer.specs.declared.Mark.TheVariants as mark
 use Rattle.ivory_tree.specs.declared.BitField.{BitField}

@@ -1,6 +1,6 @@
 -- Values that are made of the place of their tokens.
 use Rattle.std.proofs.Common.{◌≡◌, ℕ, Bool, sym, ap, ◌∙◌, subst}
-use Rattle.iv_base.specs.declared.Span.{Span}
+use Rattle.iv_words.specs.declared.Span.{Span}
 use Rattle.ivory_lexer.specs.declared.Token.{Token}
 use Rattle.reading.specs.Row.{Row, tokens}
 use Rattle.reading.specs.Language.{Language, Spanned}

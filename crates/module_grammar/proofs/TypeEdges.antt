@@ -1,6 +1,6 @@
 -- With which tokens types and areas begin, that none ends in a sign, and something that each rule spells.
 use Rattle.std.proofs.Common.{◌≡◌, ℕ, suc, Bool, true, false, [], ◌∷◌, ◌++◌, refl, ap, ◌∙◌, subst, append_assoc, Some, None, is_some}
-use Rattle.iv_base.specs.declared.IntKind.{IntKind}
+use Rattle.iv_words.specs.declared.IntKind.{IntKind}
 use Rattle.ivory_lexer.specs.declared.Token.{Token}
 use Rattle.ivory_lexer.specs.declared.TokenKind.{TokenKind}
 use Rattle.ivory_lexer.specs.declared.TokenKind.TheVariants as kind

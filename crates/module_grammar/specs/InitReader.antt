@@ -1,7 +1,7 @@
 -- How initializers are read. The number is that of the levels that are left to nest.
 use Rattle.std.specs.Prelude.{ℕ, zero, suc, List, Option, Some, None}
 use Rattle.std.specs.Option.{option_map}
-use Rattle.iv_base.specs.declared.Span.{Span}
+use Rattle.iv_words.specs.declared.Span.{Span}
 use Rattle.ivory_lexer.specs.declared.Token.{Token}
 use Rattle.ivory_lexer.specs.declared.Mark.TheVariants as mark
 use Rattle.ivory_tree.specs.declared.InitText.{InitText}

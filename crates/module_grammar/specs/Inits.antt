@@ -2,7 +2,7 @@
 --     init = expression | "{" [ init { "," init } ] "}"
 -- A "{" nests from itself to its partner, and an initializer in braces has their place.
 use Rattle.std.specs.Prelude.{ℕ, suc, List, [], ◌∷◌, ◌++◌}
-use Rattle.iv_base.specs.declared.Span.{Span}
+use Rattle.iv_words.specs.declared.Span.{Span}
 use Rattle.ivory_lexer.specs.declared.Token.{Token}
 use Rattle.ivory_lexer.specs.declared.Mark.TheVariants as mark
 use Rattle.ivory_tree.specs.declared.Expr.{Expr}

@@ -6,8 +6,8 @@
 -- A field that is declared `bool` has one bit. A "(" nests from itself to its partner. A part's place goes from its first
 -- token to its last.
 use Rattle.std.specs.Prelude.{ℕ, suc, Bool, ◌++◌}
-use Rattle.iv_base.specs.declared.Span.{Span}
-use Rattle.iv_base.specs.declared.Name.{Name}
+use Rattle.iv_words.specs.declared.Span.{Span}
+use Rattle.iv_words.specs.declared.Name.{Name}
 use Rattle.ivory_lexer.specs.declared.Token.{Token}
 use Rattle.ivory_lexer.specs.declared.Mark.TheVariants as mark
 use Rattle.ivory_tree.specs.declared.TypeText.{TypeText}

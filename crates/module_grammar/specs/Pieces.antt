@@ -1,6 +1,6 @@
 -- Pieces that several rules have, at each depth of nesting.
 use Rattle.std.specs.Prelude.{ℕ, List, Option}
-use Rattle.iv_base.specs.declared.Span.{Span}
+use Rattle.iv_words.specs.declared.Span.{Span}
 use Rattle.ivory_lexer.specs.declared.Token.{Token}
 use Rattle.ivory_lexer.specs.declared.Mark.TheVariants as mark
 use Rattle.ivory_tree.specs.declared.AreaText.{AreaText}

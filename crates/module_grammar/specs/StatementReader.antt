@@ -2,8 +2,8 @@
 -- readers of one level deeper, if there is one.
 use Rattle.std.specs.Prelude.{ℕ, zero, suc, Bool, true, List, Option, Some, None, cond, is_some}
 use Rattle.std.specs.Option.{option_map}
-use Rattle.iv_base.specs.declared.Span.{Span}
-use Rattle.iv_base.specs.declared.Name.{Name}
+use Rattle.iv_words.specs.declared.Span.{Span}
+use Rattle.iv_words.specs.declared.Name.{Name}
 use Rattle.ivory_lexer.specs.declared.Token.{Token}
 use Rattle.ivory_lexer.specs.declared.Mark.TheVariants as mark
 use Rattle.ivory_lexer.specs.declared.Key.{Key}

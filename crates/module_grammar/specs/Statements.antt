@@ -12,8 +12,8 @@
 -- is no prefix operator, and nests nothing. A tree's place goes from its first token to its last; the block of an `else if` is
 -- that one statement, with its place.
 use Rattle.std.specs.Prelude.{ℕ, suc, List, [], ◌∷◌, ◌++◌, Option, Some, None}
-use Rattle.iv_base.specs.declared.Span.{Span}
-use Rattle.iv_base.specs.declared.Name.{Name}
+use Rattle.iv_words.specs.declared.Span.{Span}
+use Rattle.iv_words.specs.declared.Name.{Name}
 use Rattle.ivory_lexer.specs.declared.Token.{Token}
 use Rattle.ivory_lexer.specs.declared.Mark.TheVariants as mark
 use Rattle.ivory_lexer.specs.declared.Key.TheVariants as key

@@ -1,8 +1,8 @@
 -- The trees above expressions, built from their parts and their places.
 use Rattle.std.specs.Prelude.{ℕ, Bool, List, [], ◌∷◌, Option}
-use Rattle.iv_base.specs.declared.Span.{Span}
-use Rattle.iv_base.specs.declared.Name.{Name}
-use Rattle.iv_base.specs.declared.IntKind.{IntKind}
+use Rattle.iv_words.specs.declared.Span.{Span}
+use Rattle.iv_words.specs.declared.Name.{Name}
+use Rattle.iv_words.specs.declared.IntKind.{IntKind}
 use Rattle.ivory_tree.specs.declared.RegionText.{RegionText}
 use Rattle.ivory_tree.specs.declared.TypeText.{TypeText}
 use Rattle.ivory_tree.specs.declared.TypeKind.{TypeKind}

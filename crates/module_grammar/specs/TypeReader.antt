@@ -1,7 +1,7 @@
 -- How types and areas are read, from left to right. The number is that of the levels that are left to nest.
 use Rattle.std.specs.Prelude.{ℕ, zero, suc, Bool, true, cond, Option, Some, None, is_some}
 use Rattle.std.specs.Option.{option_map}
-use Rattle.iv_base.specs.declared.Span.{Span}
+use Rattle.iv_words.specs.declared.Span.{Span}
 use Rattle.ivory_lexer.specs.declared.Token.{Token}
 use Rattle.ivory_lexer.specs.declared.Mark.TheVariants as mark
 use Rattle.ivory_lexer.specs.declared.Key.TheVariants as key

@@ -5,8 +5,8 @@
 -- A "(" nests from itself to its partner, the "[" of an area from itself to the area's end. A tree's place goes from its
 -- first token to its last, and a stored area has the place of its type.
 use Rattle.std.specs.Prelude.{ℕ, suc, Option, is_some, ◌++◌}
-use Rattle.iv_base.specs.declared.Span.{Span}
-use Rattle.iv_base.specs.declared.IntKind.{IntKind}
+use Rattle.iv_words.specs.declared.Span.{Span}
+use Rattle.iv_words.specs.declared.IntKind.{IntKind}
 use Rattle.ivory_lexer.specs.declared.Token.{Token}
 use Rattle.ivory_lexer.specs.declared.Mark.TheVariants as mark
 use Rattle.ivory_lexer.specs.declared.Key.TheVariants as key

@@ -1,7 +1,7 @@
 -- The line that tells a fault of a text: its place, and what is wrong there.
 use Rattle.std.specs.Prelude.{ℕ, pos, List, [], ◌∷◌, ◌++◌, codes}
 use Rattle.std.specs.Fmt.{signed_decimal}
-use Rattle.iv_base.specs.Lines as places
+use Rattle.iv_words.specs.Lines as places
 use Rattle.module_text.specs.declared.fault.Fault.{Fault}
 use Rattle.module_text.specs.declared.fault.Why.{Why}
 use Rattle.module_text.specs.declared.fault.Why.TheVariants.{BadByte, LongName, BigLiteral, OpenComment, Unexpected, TooDeep}

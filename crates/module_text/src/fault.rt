@@ -6,7 +6,8 @@ ghost use Rattle.iv_base.specs.Counts.{capped};
 ghost use Rattle.iv_base.specs.Sinks.{grown, GrewByPrefix, HasCause};
 ghost use Rattle.module_text.specs.Lines.{words_of, fault_line, fault_at};
 
-use iv_base::{Sink, SinkFault, line_of, put_number};
+use iv_base::{Sink, SinkFault, put_number};
+use iv_words::line_of;
 
 /// What is wrong at a place of a text.
 #[derive(Clone, Copy, Debug, Drop, PartialEq, Eq)]

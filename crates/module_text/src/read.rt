@@ -10,7 +10,7 @@ ghost use Rattle.module_text.specs.Verdicts.{token_start};
 ghost use Rattle.module_text.specs.declared.fault.TextFault.TheVariants.{At};
 
 use crate::fault::{Fault, TextFault, Why};
-use iv_base::Seq;
+use iv_words::Seq;
 use ivory_lexer::{LexFault, Token, lex};
 use ivory_parser::{Module, SyntaxFault, parse};
 use std::alloc::Global;

@@ -4,7 +4,7 @@ use Rattle.std.proofs.Common.{◌≡◌, ℕ, ◌-◌, ◌≤◌, ℤ, pos, Bool
 use Rattle.std.specs.Prelude.{if◌then◌else◌, int_le, nat_lt, nat_le}
 use Rattle.std.proofs.lemmas.Int.{ints}
 use Rattle.std.proofs.lemmas.Nat.{pow_pos}
-use Rattle.iv_base.specs.Kinds.{in_range_of}
+use Rattle.iv_words.specs.Kinds.{in_range_of}
 use Rattle.iv_script.specs.declared.Reason.{Reason}
 use Rattle.iv_script.specs.declared.Reason.TheVariants.{SignedOverflow}
 use Rattle.c_ast.specs.declared.Arith.{Arith}
@@ -15,8 +15,8 @@ use Rattle.c_ast.specs.Conversions.{can_hold}
 use Rattle.c_meaning.specs.Values.{Num, on_ok}
 use Rattle.c_meaning.specs.Operators.{Operator, fitted, computed, truth, converted_or, operand, in_common, usual, compared}
 use Rattle.c_ast.proofs.Conversions.{held_stays}
-use Rattle.c_ast.proofs.Ranges.{powers_grow}
-use Rattle.c_ast.proofs.Modular.{modulo_of_held}
+use Rattle.iv_words.proofs.Ranges.{powers_grow}
+use Rattle.iv_words.proofs.Modular.{modulo_of_held}
 use Rattle.c_ast.proofs.Promotions.{promotion_keeps, signed_common_keeps, bits_by_rank}
 use Rattle.overflow_checks.proofs.Tables.{CTable, common_with_itself}
 

@@ -3,9 +3,10 @@ use Rattle.std.proofs.Common.{◌≡◌, ℕ, ℤ, pos, ◌+ℤ◌, ◌-ℤ◌, 
 use Rattle.std.specs.Prelude.{if◌then◌else◌, int_div, int_lt, int_le, bit_and, bit_or, bit_xor}
 use Rattle.std.specs.Int.{int_div_euclid}
 use Rattle.std.specs.Ordering.{int_eq}
-use Rattle.iv_base.specs.Kinds.{in_range_of, in_range, greatest_of, width, is_signed}
-use Rattle.iv_base.specs.declared.IntKind.{IntKind}
-use Rattle.int_ops.specs.Operators.{is_allowed, is_allowed_at, is_binary, exact, exact_at, modulo, two_to, bitwise, truth}
+use Rattle.iv_words.specs.Kinds.{in_range_of, in_range, greatest_of, width, is_signed}
+use Rattle.iv_words.specs.declared.IntKind.{IntKind}
+use Rattle.iv_words.specs.Bits.{modulo, two_to}
+use Rattle.int_ops.specs.Operators.{is_allowed, is_allowed_at, is_binary, exact, exact_at, bitwise, truth}
 use Rattle.int_ops.specs.declared.Op.{Op}
 use Rattle.int_ops.specs.declared.Op.TheVariants as op
 use Rattle.int_ops.specs.declared.Stop.{Stop}
@@ -20,14 +21,14 @@ use Rattle.c_meaning.specs.Operators as c
 use Rattle.c_meaning.specs.State.{Program, CState}
 use Rattle.c_meaning.specs.Expressions.{eval}
 use Rattle.c_ast.proofs.Conversions.{held_stays}
-use Rattle.c_ast.proofs.Modular.{modulo_of_held}
+use Rattle.iv_words.proofs.Modular.{modulo_of_held}
 use Rattle.overflow_checks.specs.Contract.{IsOperand, OperandsStandFor, result_type, ComesTo, IsComputation}
 use Rattle.overflow_checks.specs.Parts.{operand_of}
 use Rattle.overflow_checks.specs.Forms.{computation_of, computation_for}
 use Rattle.overflow_checks.proofs.Tables.{CTable, table_of_target}
 use Rattle.overflow_checks.proofs.Given.{IsGiven, operand_is_given}
 use Rattle.overflow_checks.proofs.Rows.{AreGiven, Tests, GivesNumber}
-use Rattle.overflow_checks.proofs.Widths.{range_of_sign}
+use Rattle.iv_words.proofs.Widths.{range_of_sign}
 use Rattle.overflow_checks.proofs.TruthRows.{eq_tests, ne_tests, lt_tests, le_tests, gt_tests, ge_tests}
 use Rattle.overflow_checks.proofs.UnsignedResults.{GivesModulo}
 use Rattle.overflow_checks.proofs.UnsignedResults as unsigned

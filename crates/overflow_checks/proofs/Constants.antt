@@ -2,13 +2,13 @@
 use Rattle.std.proofs.Common.{◌≡◌, ℕ, ◌-◌, ◌^◌, ◌<◌, ℤ, pos, Bool, true, false, IsTrue, Option, Some, None, arith, refl}
 use Rattle.std.specs.Prelude.{if◌then◌else◌, IsSome, [], ◌∷◌}
 use Rattle.std.proofs.lemmas.Int.{ints}
-use Rattle.iv_base.specs.Kinds.{in_range_of}
+use Rattle.iv_words.specs.Kinds.{in_range_of}
 use Rattle.c_ast.specs.declared.Arith.{Arith}
 use Rattle.c_ast.specs.declared.Arith.TheVariants.{Int, UInt, Long, ULong, LongLong, ULongLong}
 use Rattle.c_ast.specs.declared.Suffix.TheVariants.{Plain, U}
 use Rattle.c_ast.specs.Targets.{TargetTable, arith_bits, arith_signed}
 use Rattle.c_ast.specs.Conversions.{first_of_types, constant_type_in}
-use Rattle.c_ast.proofs.Ranges.{powers_grow}
+use Rattle.iv_words.proofs.Ranges.{powers_grow}
 use Rattle.overflow_checks.proofs.Tables.{CTable}
 
 module _ (t : TargetTable) (table : CTable t) where

@@ -2,9 +2,8 @@
 use Rattle.std.proofs.Common.{◌≡◌, ℕ, ℤ, pos, IsTrue, Option, Some, None, Result, Ok, refl, sym, subst, ap, ◌∙◌}
 use Rattle.std.specs.Prelude.{IsSome}
 use Rattle.std.specs.Option.{option_map, option_and_then}
-use Rattle.iv_base.specs.Kinds.{in_range, width, is_signed}
-use Rattle.iv_base.specs.declared.IntKind.{IntKind}
-use Rattle.iv_base.specs.declared.IntKind.TheVariants.{U8, U16, U32, U64, I8, I16, I32, I64}
+use Rattle.iv_words.specs.Kinds.{in_range, width, is_signed, kind_at}
+use Rattle.iv_words.specs.declared.IntKind.{IntKind}
 use Rattle.iv_script.specs.declared.Reason.{Reason}
 use Rattle.c_ast.specs.declared.Arith.{Arith}
 use Rattle.c_ast.specs.declared.CScalar.TheVariants.{Int as Exact}
@@ -21,19 +20,10 @@ use Rattle.c_meaning.specs.Values.{CValue, Num, kind_of, on_ok, typed, as_assign
 use Rattle.c_meaning.specs.Operators.{unary, binary}
 use Rattle.c_meaning.specs.State.{Program, CState}
 use Rattle.c_meaning.specs.Expressions.{type_of, scope_types, named, held, cast_type, eval}
+use Rattle.iv_words.proofs.Widths.{kind_at_width}
 use Rattle.c_ast.proofs.Conversions.{held_stays}
 use Rattle.overflow_checks.specs.Contract.{IsOperand, StandsFor}
-use Rattle.overflow_checks.specs.Parts.{kind_at, cast_to, operand_of}
-
-pub kind_at_width : (kind : IntKind) → kind_at (width kind) (is_signed kind) ≡ kind
-kind_at_width U8 = refl
-kind_at_width U16 = refl
-kind_at_width U32 = refl
-kind_at_width U64 = refl
-kind_at_width I8 = refl
-kind_at_width I16 = refl
-kind_at_width I32 = refl
-kind_at_width I64 = refl
+use Rattle.overflow_checks.specs.Parts.{cast_to, operand_of}
 
 -- the kind's type
 abbrev pub of_kind : IntKind → CKind

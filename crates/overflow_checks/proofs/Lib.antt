@@ -3,7 +3,7 @@ pub mod Given
 pub mod Rows
 pub mod Choices
 pub mod Alike
-pub mod Widths
+pub mod DoubleProducts
 pub mod Constants
 pub mod Numbers
 pub mod UnsignedRows

@@ -2,8 +2,8 @@
 use Rattle.std.proofs.Common.{◌≡◌, ℕ, ◌-◌, ◌^◌, ◌<◌, ◌≤◌, inl, inr, pos, Bool, true, false, IsTrue, arith, refl}
 use Rattle.std.specs.Prelude.{if◌then◌else◌, nat_lt, IsSome}
 use Rattle.std.proofs.lemmas.Nat.{pow_pos}
-use Rattle.iv_base.specs.Kinds.{width, is_signed}
-use Rattle.iv_base.specs.declared.IntKind.{IntKind}
+use Rattle.iv_words.specs.Kinds.{width, is_signed}
+use Rattle.iv_words.specs.declared.IntKind.{IntKind}
 use Rattle.int_ops.specs.Operators.{is_binary}
 use Rattle.int_ops.specs.declared.Op.{Op}
 use Rattle.int_ops.specs.declared.Op.TheVariants as op
@@ -16,14 +16,14 @@ use Rattle.c_ast.specs.declared.CBinary.TheVariants.{Add, Sub, Mul, Xor, Eq, OrE
 use Rattle.c_ast.specs.Syntax.{Expr, Number, Read, Address, Unary, Binary, Cast, Cond, Var, At, Member, Element}
 use Rattle.c_ast.specs.Targets.{table_of}
 use Rattle.c_ast.specs.Conversions.{constant_type_in}
-use Rattle.c_ast.proofs.Ranges.{powers_grow}
+use Rattle.iv_words.proofs.Ranges.{powers_grow}
 use Rattle.overflow_checks.specs.Contract.{IsOperand, IsMadeOf, guard_levels, computation_levels}
 use Rattle.overflow_checks.specs.Parts.{plain, unsigned, greatest_constant, operand_of, is_constant, double_product}
 use Rattle.overflow_checks.specs.UnsignedForms.{does_not_wrap, shift_fits}
 use Rattle.overflow_checks.specs.SignedForms.{is_between_ends, unsigned_of, wide_sum_fits, wide_difference_fits, magnitude, product_limit, nonzero_product_fits, opposite_fits}
 use Rattle.overflow_checks.specs.Forms.{sum_guard, difference_guard, product_guard, quotient_guard, guard_of, is_turned, turned_guard, guard_for, product_of, computation_of, computation_for}
 use Rattle.overflow_checks.proofs.Tables.{CTable, table_of_target}
-use Rattle.overflow_checks.proofs.Widths.{width_most}
+use Rattle.iv_words.proofs.Widths.{width_most}
 use Rattle.overflow_checks.proofs.Constants.{typed_is_some, plain_typed, unsigned_typed}
 
 module _ (t : Target) where

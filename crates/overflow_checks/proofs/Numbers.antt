@@ -7,10 +7,9 @@ use Rattle.std.proofs.lemmas.Nat.{pow_pos, pow-add, mod-mul-add}
 use Rattle.std.proofs.lemmas.Bool.{cases_lt}
 use Rattle.std.proofs.lemmas.Bool.Decides.{Decides-int_eq}
 use Rattle.std.proofs.Math.Nat.{mod-eq_of_lt, mul-le-mul_left, mul-le-mul_right, pow-suc, le-div_iff_mul-le, div-le_self}
-use Rattle.iv_base.specs.Kinds.{in_range_of}
-use Rattle.c_ast.specs.Conversions.{modulo}
-use Rattle.c_meaning.specs.Operators.{two_to}
-use Rattle.c_ast.proofs.Ranges.{powers_grow}
+use Rattle.iv_words.specs.Kinds.{in_range_of}
+use Rattle.iv_words.specs.Bits.{modulo, two_to}
+use Rattle.iv_words.proofs.Ranges.{powers_grow}
 
 -- two tests that follow from each other
 pub same_test : (a b : Bool) → (IsTrue a → IsTrue b) → (IsTrue b → IsTrue a) → a ≡ b

@@ -1,6 +1,6 @@
 -- What is proved of each row, where the operands of a kind are given: what its guard tests, and which number its computation gives.
 use Rattle.std.proofs.Common.{◌≡◌, ℤ, Bool, Ok}
-use Rattle.iv_base.specs.declared.IntKind.{IntKind}
+use Rattle.iv_words.specs.declared.IntKind.{IntKind}
 use Rattle.c_ast.specs.declared.CKind.{CKind}
 use Rattle.c_ast.specs.Syntax.{Expr}
 use Rattle.c_ast.specs.Targets.{table_of}

@@ -7,7 +7,7 @@ use Rattle.std.proofs.lemmas.Nat.{pow_pos, and_le_l, xor_lt}
 use Rattle.std.proofs.lemmas.Nat.Bits.{bit_at_and, bit_at_xor, bit_at-lt, bit_at_above, bit_at_cat_high, bit_at_lowest}
 use Rattle.std.proofs.lemmas.Bool.{cases_lt}
 use Rattle.std.proofs.Math.Nat.{pow-suc}
-use Rattle.iv_base.specs.Kinds.{in_range_of}
+use Rattle.iv_words.specs.Kinds.{in_range_of}
 use Rattle.c_meaning.specs.Operators.{bits_of}
 use Rattle.c_meaning.proofs.Bits.{bits_of_natural, bits_of_negative}
 use Rattle.overflow_checks.proofs.SignedNumbers.{natural_below, negative_below, natural_held, negative_held, mixed_sum_held}

@@ -2,14 +2,14 @@
 use Rattle.std.proofs.Common.{◌≡◌, ℕ, ◌-◌, ◌*◌, ◌^◌, ◌<◌, ◌≤◌, ℤ, pos, negsuc, ◌+ℤ◌, ◌-ℤ◌, ◌*ℤ◌, neg_ℤ, Bool, true, false, not, IsTrue, arith, refl, sym, subst, ap, ◌∙◌}
 use Rattle.std.specs.Prelude.{◌||◌, ◌&&◌, int_le, int_div}
 use Rattle.std.specs.Ordering.{int_eq}
-use Rattle.iv_base.specs.Kinds.{in_range_of, in_range, width, is_signed, least_of}
-use Rattle.iv_base.specs.declared.IntKind.{IntKind}
+use Rattle.iv_words.specs.Kinds.{in_range_of, in_range, width, is_signed, least_of}
+use Rattle.iv_words.specs.declared.IntKind.{IntKind}
 use Rattle.c_ast.specs.declared.CUnary.TheVariants.{Neg}
 use Rattle.c_ast.specs.declared.CBinary.TheVariants.{Add, Sub, Mul, Ne, Le, Ge}
 use Rattle.c_ast.specs.Syntax.{Expr, Unary, Binary}
 use Rattle.c_ast.specs.Targets.{table_of}
 use Rattle.c_meaning.specs.State.{Program, CState}
-use Rattle.c_ast.proofs.Ranges.{wider}
+use Rattle.iv_words.proofs.Ranges.{wider}
 use Rattle.overflow_checks.specs.Parts.{plain, greatest_constant, least_constant, cast_to}
 use Rattle.overflow_checks.specs.SignedForms.{is_between_ends, narrow_sum_fits, narrow_difference_fits, opposite_fits, quotient_fits}
 use Rattle.overflow_checks.proofs.Tables.{CTable}

@@ -3,7 +3,7 @@ use Rattle.std.proofs.Common.{◌≡◌, ℕ, ◌-◌, ◌^◌, ◌<◌, ◌≤�
 use Rattle.std.specs.Prelude.{nat_eq, nat_lt, int_lt, bit_and, bit_xor, unsigned_abs}
 use Rattle.std.proofs.lemmas.Nat.{pow_pos, mod_below, and_le_l, xor_lt}
 use Rattle.std.proofs.Math.Nat.{mod-eq_of_lt}
-use Rattle.iv_base.specs.Kinds.{in_range_of}
+use Rattle.iv_words.specs.Kinds.{in_range_of}
 use Rattle.iv_script.specs.declared.Reason.{Reason}
 use Rattle.c_ast.specs.declared.Arith.{Arith}
 use Rattle.c_ast.specs.declared.CKind.{CKind}
@@ -13,12 +13,12 @@ use Rattle.c_ast.specs.declared.CBinary.{CBinary}
 use Rattle.c_ast.specs.declared.CBinary.TheVariants.{Add, Sub, Mul, And, Xor, Lt}
 use Rattle.c_ast.specs.Syntax.{Expr, Binary}
 use Rattle.c_ast.specs.Targets.{TargetTable, table_of, arith_bits, arith_signed, promoted, common_in, common_type}
-use Rattle.c_ast.specs.Conversions.{modulo}
+use Rattle.iv_words.specs.Bits.{modulo}
 use Rattle.c_meaning.specs.Values.{CValue, Num}
 use Rattle.c_meaning.specs.Operators.{Operator, sum, difference, product, bits_of, bitwise, computed, truth, usual, binary}
 use Rattle.c_meaning.specs.State.{Program, CState}
-use Rattle.c_ast.proofs.Ranges.{powers_grow}
-use Rattle.c_ast.proofs.Modular.{modulo_in_range, modulo_of_held, modulo_sum_left, modulo_sum_right, modulo_difference_left, modulo_difference_right, modulo_product_left, modulo_product_right}
+use Rattle.iv_words.proofs.Ranges.{powers_grow}
+use Rattle.iv_words.proofs.Modular.{modulo_in_range, modulo_of_held, modulo_sum_left, modulo_sum_right, modulo_difference_left, modulo_difference_right, modulo_product_left, modulo_product_right}
 use Rattle.overflow_checks.specs.Parts.{unsigned}
 use Rattle.overflow_checks.specs.SignedForms.{top_is_clear, differing}
 use Rattle.overflow_checks.proofs.Tables.{CTable, common_with_itself}

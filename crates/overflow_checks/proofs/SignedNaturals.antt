@@ -14,14 +14,15 @@ use Rattle.c_ast.specs.declared.Suffix.TheVariants.{Plain, U}
 use Rattle.c_ast.specs.declared.CBinary.TheVariants.{Add, Sub, Mul, Div, Shr, Le}
 use Rattle.c_ast.specs.Syntax.{Expr, Binary}
 use Rattle.c_ast.specs.Targets.{TargetTable, table_of, arith_bits, arith_signed, common_in, common_type}
-use Rattle.c_ast.specs.Conversions.{can_hold, first_of_types, constant_type_in, modulo}
+use Rattle.iv_words.specs.Bits.{modulo}
+use Rattle.c_ast.specs.Conversions.{can_hold, first_of_types, constant_type_in}
 use Rattle.c_meaning.specs.Values.{CValue, Num, typed}
 use Rattle.c_meaning.specs.Operators.{sum, difference, product, quotient, fitted, shifted_right, computed}
 use Rattle.c_meaning.specs.State.{Program, CState}
 use Rattle.c_meaning.specs.Expressions.{as_common}
 use Rattle.c_ast.proofs.Conversions.{held_stays}
-use Rattle.c_ast.proofs.Ranges.{powers_grow}
-use Rattle.c_ast.proofs.Modular.{modulo_in_range, modulo_difference_right}
+use Rattle.iv_words.proofs.Ranges.{powers_grow}
+use Rattle.iv_words.proofs.Modular.{modulo_in_range, modulo_difference_right}
 use Rattle.overflow_checks.specs.Parts.{plain, unsigned, greatest_constant}
 use Rattle.overflow_checks.specs.UnsignedForms.{does_not_wrap}
 use Rattle.overflow_checks.proofs.Tables.{CTable}

@@ -6,8 +6,8 @@ use Rattle.std.proofs.lemmas.Int.{ints}
 use Rattle.std.proofs.lemmas.Bool.Decides.{Decides-int_eq}
 use Rattle.std.proofs.lemmas.Nat.{pow_pos, pow-add}
 use Rattle.std.proofs.Math.Nat.{mul-le-mul_left, mul-le-mul_right, pow-suc, div-le_self, div-add-mod', div-one}
-use Rattle.iv_base.specs.Kinds.{in_range_of, least_of, greatest_of}
-use Rattle.c_ast.proofs.Ranges.{powers_grow}
+use Rattle.iv_words.specs.Kinds.{in_range_of, least_of, greatest_of}
+use Rattle.iv_words.proofs.Ranges.{powers_grow}
 use Rattle.overflow_checks.proofs.Numbers.{same_test}
 
 pub from_zero : (n : ℕ) → IsTrue (int_le (pos 0) (pos n))

@@ -7,9 +7,9 @@ use Rattle.std.proofs.lemmas.Int.{ints}
 use Rattle.std.proofs.lemmas.Bool.Decides.{Decides-int_eq}
 use Rattle.std.proofs.lemmas.Nat.{pow_pos}
 use Rattle.std.proofs.Math.Nat.{mod-eq_of_lt, div-lt_iff_lt-mul}
-use Rattle.iv_base.specs.Kinds.{in_range_of}
-use Rattle.c_ast.proofs.Modular.{modulo_of_held}
-use Rattle.c_ast.specs.Conversions.{modulo}
+use Rattle.iv_words.specs.Kinds.{in_range_of}
+use Rattle.iv_words.proofs.Modular.{modulo_of_held}
+use Rattle.iv_words.specs.Bits.{modulo}
 use Rattle.overflow_checks.proofs.Numbers.{same_test, natural}
 use Rattle.overflow_checks.proofs.SignedNumbers.{natural_below, negative_below, natural_held}
 use Rattle.overflow_checks.proofs.SignedBits.{top, double_top, natural_low, negative_high}

@@ -2,9 +2,9 @@
 use Rattle.std.proofs.Common.{◌≡◌, ℕ, ◌*◌, ◌≤◌, ◌⊎◌, inl, inr, ℤ, pos, ◌+ℤ◌, ◌-ℤ◌, ◌*ℤ◌, neg_ℤ, Bool, true, false, IsTrue, arith, refl}
 use Rattle.std.specs.Prelude.{if◌then◌else◌, int_div, nat_lt}
 use Rattle.std.specs.Ordering.{int_eq}
-use Rattle.iv_base.specs.Kinds.{in_range_of, width, is_signed}
-use Rattle.iv_base.specs.declared.IntKind.{IntKind}
-use Rattle.iv_base.specs.declared.IntKind.TheVariants.{U8, U16, U32, U64, I8, I16, I32, I64}
+use Rattle.iv_words.specs.Kinds.{in_range_of, width, is_signed}
+use Rattle.iv_words.specs.declared.IntKind.{IntKind}
+use Rattle.iv_words.specs.declared.IntKind.TheVariants.{U8, U16, U32, U64, I8, I16, I32, I64}
 use Rattle.c_ast.specs.declared.CUnary.TheVariants.{Neg}
 use Rattle.c_ast.specs.declared.CBinary.TheVariants.{Add, Sub, Mul, Div, Rem}
 use Rattle.c_ast.specs.Syntax.{Expr, Unary, Binary}
@@ -16,7 +16,7 @@ use Rattle.overflow_checks.specs.Forms.{sum_guard, difference_guard, product_gua
 use Rattle.overflow_checks.proofs.Tables.{CTable}
 use Rattle.overflow_checks.proofs.Given.{IsGiven}
 use Rattle.overflow_checks.proofs.Rows.{AreGiven, Tests, GivesNumber}
-use Rattle.overflow_checks.proofs.Widths.{width_least, width_most, range_of_sign}
+use Rattle.iv_words.proofs.Widths.{width_least, width_most, range_of_sign}
 use Rattle.overflow_checks.proofs.SignedValues.{IsSigned, number_is, given_is, opposite_is, sum_is, difference_is, product_is, quotient_is, remainder_gives}
 use Rattle.overflow_checks.proofs.SignedWideSums.{wide_sum_tests, wide_difference_tests}
 use Rattle.overflow_checks.proofs.SignedWideProducts.{wide_product_tests}

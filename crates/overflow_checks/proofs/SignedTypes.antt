@@ -4,14 +4,14 @@ use Rattle.std.specs.Prelude.{Option, Some, None, if◌then◌else◌}
 use Rattle.std.proofs.lemmas.Int.{ints}
 use Rattle.std.proofs.lemmas.Nat.{pow_pos}
 use Rattle.std.proofs.Math.Nat.{pow-suc}
-use Rattle.iv_base.specs.Kinds.{in_range_of, width, is_signed}
-use Rattle.iv_base.specs.declared.IntKind.{IntKind}
+use Rattle.iv_words.specs.Kinds.{in_range_of, width, is_signed}
+use Rattle.iv_words.specs.declared.IntKind.{IntKind}
 use Rattle.c_ast.specs.declared.Arith.{Arith}
 use Rattle.c_ast.specs.declared.Arith.TheVariants.{Int, UInt, Long, ULong, LongLong, ULongLong}
 use Rattle.c_ast.specs.declared.CScalar.TheVariants.{Int as Exact}
 use Rattle.c_ast.specs.declared.CKind.TheVariants.{Scalar}
 use Rattle.c_ast.specs.Targets.{TargetTable, arith_bits, arith_signed, represents, promote_exact, promoted, common_in}
-use Rattle.c_ast.proofs.Ranges.{wider}
+use Rattle.iv_words.proofs.Ranges.{wider}
 use Rattle.overflow_checks.proofs.Tables.{CTable}
 
 module _ (t : TargetTable) (table : CTable t) where

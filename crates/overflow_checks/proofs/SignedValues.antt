@@ -5,8 +5,8 @@ use Rattle.std.specs.Prelude.{if◌then◌else◌, int_div}
 use Rattle.std.specs.Ordering.{int_eq}
 use Rattle.std.proofs.lemmas.Int.{ints}
 use Rattle.std.proofs.lemmas.Nat.{pow_pos}
-use Rattle.iv_base.specs.Kinds.{in_range_of, in_range, width, is_signed}
-use Rattle.iv_base.specs.declared.IntKind.{IntKind}
+use Rattle.iv_words.specs.Kinds.{in_range_of, in_range, width, is_signed}
+use Rattle.iv_words.specs.declared.IntKind.{IntKind}
 use Rattle.iv_script.specs.declared.Reason.{Reason}
 use Rattle.iv_script.specs.declared.Reason.TheVariants.{DivZero}
 use Rattle.c_ast.specs.declared.Arith.{Arith}
@@ -23,7 +23,7 @@ use Rattle.c_meaning.specs.Values.{CValue, Num, on_ok}
 use Rattle.c_meaning.specs.Operators.{Operator, fitted, sum, difference, product, quotient, remainder, computed, usual, compared, binary}
 use Rattle.c_meaning.specs.State.{Program, CState}
 use Rattle.c_ast.proofs.Conversions.{held_stays}
-use Rattle.c_ast.proofs.Ranges.{powers_grow}
+use Rattle.iv_words.proofs.Ranges.{powers_grow}
 use Rattle.c_ast.proofs.Promotions.{promotion_keeps, signed_common_keeps}
 use Rattle.overflow_checks.specs.Parts.{plain, greatest_constant, least_constant, cast_to}
 use Rattle.overflow_checks.proofs.Tables.{CTable, promoted_signed}

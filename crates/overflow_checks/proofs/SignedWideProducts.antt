@@ -5,8 +5,8 @@ use Rattle.std.specs.Option.{option_map, option_and_then}
 use Rattle.std.specs.Ordering.{int_eq}
 use Rattle.std.proofs.lemmas.Nat.{xor_lt}
 use Rattle.std.proofs.lemmas.Nat.Bits.{bit_at_xor}
-use Rattle.iv_base.specs.Kinds.{in_range_of, width, is_signed}
-use Rattle.iv_base.specs.declared.IntKind.{IntKind}
+use Rattle.iv_words.specs.Kinds.{in_range_of, width, is_signed}
+use Rattle.iv_words.specs.declared.IntKind.{IntKind}
 use Rattle.iv_script.specs.declared.Reason.{Reason}
 use Rattle.c_ast.specs.declared.Arith.{Arith}
 use Rattle.c_ast.specs.declared.Arith.TheVariants.{Int}
@@ -28,7 +28,7 @@ use Rattle.overflow_checks.proofs.Tables.{CTable, common_with_itself}
 use Rattle.overflow_checks.proofs.Given.{IsGiven, of_kind}
 use Rattle.overflow_checks.proofs.Rows.{Tests}
 use Rattle.overflow_checks.proofs.Choices.{or_else_tests, and_also_tests}
-use Rattle.overflow_checks.proofs.Widths.{width_least, width_most, range_of_sign}
+use Rattle.iv_words.proofs.Widths.{width_least, width_most, range_of_sign}
 use Rattle.overflow_checks.proofs.Numbers.{below, product_test}
 use Rattle.overflow_checks.proofs.Numbers as numbers
 use Rattle.overflow_checks.proofs.SignedTypes.{IsAlike, int_with_unsigned}

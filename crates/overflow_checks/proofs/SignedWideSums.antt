@@ -1,22 +1,22 @@
 -- Sums and differences of the signed kinds that are no narrower than int: what their guards on bits test.
 use Rattle.std.proofs.Common.{◌≡◌, ℕ, ◌+◌, ◌%◌, ◌≤◌, min, ℤ, pos, ◌+ℤ◌, ◌-ℤ◌, true, false, IsTrue, arith, refl, ap, ◌∙◌}
 use Rattle.std.specs.Prelude.{Option, Some, nat_eq, bit_xor}
-use Rattle.iv_base.specs.Kinds.{in_range_of, width, is_signed}
-use Rattle.iv_base.specs.declared.IntKind.{IntKind}
-use Rattle.iv_base.specs.declared.IntKind.TheVariants.{U8, U16, U32, U64, I8, I16, I32, I64}
+use Rattle.iv_words.specs.Kinds.{in_range_of, width, is_signed, kind_at}
+use Rattle.iv_words.specs.declared.IntKind.{IntKind}
+use Rattle.iv_words.specs.declared.IntKind.TheVariants.{U8, U16, U32, U64, I8, I16, I32, I64}
 use Rattle.c_ast.specs.declared.Arith.{Arith}
 use Rattle.c_ast.specs.declared.CBinary.TheVariants.{Add, Sub}
 use Rattle.c_ast.specs.Syntax.{Expr, Binary}
 use Rattle.c_ast.specs.Targets.{table_of, promoted}
-use Rattle.c_ast.specs.Conversions.{converted, modulo}
+use Rattle.iv_words.specs.Bits.{modulo}
+use Rattle.c_ast.specs.Conversions.{converted}
 use Rattle.c_meaning.specs.Operators.{bits_of}
 use Rattle.c_meaning.specs.State.{Program, CState}
-use Rattle.overflow_checks.specs.Parts.{kind_at}
 use Rattle.overflow_checks.specs.SignedForms.{unsigned_of, differing, top_is_clear, wide_sum_fits, wide_difference_fits}
 use Rattle.overflow_checks.proofs.Tables.{CTable}
 use Rattle.overflow_checks.proofs.Given.{IsGiven, of_kind, cast_gives}
 use Rattle.overflow_checks.proofs.Rows.{AreGiven, Tests}
-use Rattle.overflow_checks.proofs.Widths.{width_least, width_most, range_of_sign}
+use Rattle.iv_words.proofs.Widths.{width_least, width_most, range_of_sign}
 use Rattle.overflow_checks.proofs.SignedTypes.{IsAlike, promoted_alike}
 use Rattle.overflow_checks.proofs.SignedGuards.{tests_same}
 use Rattle.overflow_checks.proofs.SignedBits as bits

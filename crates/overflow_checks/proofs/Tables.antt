@@ -1,9 +1,9 @@
 -- What the forms ask of a target's table, and to which types it promotes the kinds.
 use Rattle.std.proofs.Common.{◌≡◌, ℕ, ◌*◌, ◌<◌, ◌≤◌, ◌⊎◌, inl, inr, Bool, true, false, arith, refl, sym, subst, ap, ◌∙◌}
 use Rattle.std.specs.Prelude.{Option, Some, None, if◌then◌else◌}
-use Rattle.iv_base.specs.Kinds.{width, is_signed}
-use Rattle.iv_base.specs.declared.IntKind.{IntKind}
-use Rattle.iv_base.specs.declared.IntKind.TheVariants.{U8, U16, U32, U64, I8, I16, I32, I64}
+use Rattle.iv_words.specs.Kinds.{width, is_signed}
+use Rattle.iv_words.specs.declared.IntKind.{IntKind}
+use Rattle.iv_words.specs.declared.IntKind.TheVariants.{U8, U16, U32, U64, I8, I16, I32, I64}
 use Rattle.c_ast.specs.declared.Target.{Target}
 use Rattle.c_ast.specs.declared.Target.TheVariants.{T32}
 use Rattle.c_ast.specs.declared.Arith.{Arith}

@@ -2,8 +2,8 @@
 use Rattle.std.proofs.Common.{◌≡◌, ℤ, pos, Bool, true, false, not, Ok, arith, refl, ◌∙◌}
 use Rattle.std.specs.Prelude.{int_lt, int_le}
 use Rattle.std.specs.Ordering.{int_eq}
-use Rattle.iv_base.specs.Kinds.{is_signed}
-use Rattle.iv_base.specs.declared.IntKind.{IntKind}
+use Rattle.iv_words.specs.Kinds.{is_signed}
+use Rattle.iv_words.specs.declared.IntKind.{IntKind}
 use Rattle.c_ast.specs.declared.CKind.TheVariants.{Arith as Computed}
 use Rattle.c_ast.specs.declared.Suffix.TheVariants.{Plain}
 use Rattle.c_ast.specs.declared.CBinary.{CBinary}

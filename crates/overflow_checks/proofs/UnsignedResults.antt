@@ -6,10 +6,10 @@ use Rattle.std.specs.Ordering.{int_eq}
 use Rattle.std.proofs.lemmas.Int.{ints}
 use Rattle.std.proofs.lemmas.Nat.{pow_pos, and_le_l, or_lt, xor_lt}
 use Rattle.std.proofs.Math.Nat.{mod-eq_of_lt}
-use Rattle.iv_base.specs.Kinds.{in_range_of, greatest_of, width, is_signed}
+use Rattle.iv_words.specs.Kinds.{in_range_of, greatest_of, width, is_signed, kind_at}
 use Rattle.iv_script.specs.declared.Reason.{Reason}
 use Rattle.iv_script.specs.declared.Reason.TheVariants.{SignedOverflow, DivZero, Shift, Implementation}
-use Rattle.iv_base.specs.declared.IntKind.{IntKind}
+use Rattle.iv_words.specs.declared.IntKind.{IntKind}
 use Rattle.int_ops.specs.Operators as exact
 use Rattle.c_ast.specs.declared.Arith.{Arith}
 use Rattle.c_ast.specs.declared.CKind.{CKind}
@@ -20,19 +20,20 @@ use Rattle.c_ast.specs.declared.CBinary.TheVariants.{Add, Sub, Mul, Div, Rem, An
 use Rattle.c_ast.specs.Syntax.{Expr, Unary, Binary}
 use Rattle.c_ast.specs.Targets.{TargetTable, table_of, arith_bits, arith_signed, promoted}
 use Rattle.c_meaning.specs.Values.{CValue, Num, on_ok}
-use Rattle.c_ast.specs.Conversions.{modulo}
-use Rattle.c_meaning.specs.Operators.{Operator, fitted, sum, difference, product, quotient, remainder, bits_of, number_of_bits, bitwise, two_to, shifted_left, shifted_right, flipped, computed, usual, binary}
+use Rattle.iv_words.specs.Bits.{modulo, two_to}
+use Rattle.c_meaning.specs.Operators.{Operator, fitted, sum, difference, product, quotient, remainder, bits_of, number_of_bits, bitwise, shifted_left, shifted_right, flipped, computed, usual, binary}
 use Rattle.c_meaning.specs.State.{Program, CState}
 use Rattle.c_meaning.specs.Expressions.{eval}
-use Rattle.c_ast.proofs.Ranges.{powers_grow}
-use Rattle.c_ast.proofs.Modular.{modulo_only, modulo_of_held}
+use Rattle.iv_words.proofs.Ranges.{powers_grow}
+use Rattle.iv_words.proofs.Modular.{modulo_only, modulo_of_held}
 use Rattle.c_ast.proofs.Promotions.{promotion_keeps}
-use Rattle.overflow_checks.specs.Parts.{kind_at, cast_to, double_product}
+use Rattle.overflow_checks.specs.Parts.{cast_to, double_product}
 use Rattle.overflow_checks.specs.Forms.{product_of}
 use Rattle.overflow_checks.proofs.Tables.{CTable, IsWideOrSame, wide, same, promoted_unsigned}
 use Rattle.overflow_checks.proofs.Given.{Gives, IsGiven, of_kind, binary_gives, unary_gives}
 use Rattle.overflow_checks.proofs.Rows.{AreGiven}
-use Rattle.overflow_checks.proofs.Widths.{width_least, range_of_sign, IsDouble, doubled, in_double, product_gives}
+use Rattle.iv_words.proofs.Widths.{width_least, range_of_sign, IsDouble, doubled, in_double}
+use Rattle.overflow_checks.proofs.DoubleProducts.{product_gives}
 use Rattle.overflow_checks.proofs.Alike.{fitted_held, usual_alike}
 use Rattle.overflow_checks.proofs.Numbers.{below, from_zero, sum_in_double, difference_in_double, product_in_double, shifted_in_double, quotient_held}
 use Rattle.overflow_checks.proofs.UnsignedRows.{IsReduced, fitted_reduced}

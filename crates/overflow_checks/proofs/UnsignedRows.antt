@@ -4,31 +4,33 @@ use Rattle.std.specs.Prelude.{if◌then◌else◌, int_le, int_lt, int_div, nat_
 use Rattle.std.specs.Ordering.{int_eq}
 use Rattle.std.proofs.lemmas.Int.{ints}
 use Rattle.std.proofs.lemmas.Nat.{pow_pos}
-use Rattle.iv_base.specs.Kinds.{in_range_of, width, is_signed}
+use Rattle.iv_words.specs.Kinds.{in_range_of, width, is_signed, kind_at}
 use Rattle.iv_script.specs.declared.Reason.{Reason}
 use Rattle.iv_script.specs.declared.Reason.TheVariants.{DivZero}
-use Rattle.iv_base.specs.declared.IntKind.{IntKind}
+use Rattle.iv_words.specs.declared.IntKind.{IntKind}
 use Rattle.c_ast.specs.declared.Arith.{Arith}
 use Rattle.c_ast.specs.declared.CKind.TheVariants.{Arith as Computed}
 use Rattle.c_ast.specs.declared.Suffix.TheVariants.{Plain, U}
 use Rattle.c_ast.specs.declared.CBinary.TheVariants.{Add, Mul, Div, Eq, Ne, Lt, Le, Ge}
 use Rattle.c_ast.specs.Syntax.{Expr, Binary}
 use Rattle.c_ast.specs.Targets.{TargetTable, table_of, arith_bits, arith_signed, promoted, common_type}
-use Rattle.c_ast.specs.Conversions.{converted, constant_type_in, modulo}
+use Rattle.iv_words.specs.Bits.{modulo}
+use Rattle.c_ast.specs.Conversions.{converted, constant_type_in}
 use Rattle.c_meaning.specs.Values.{Num}
 use Rattle.c_meaning.specs.Operators.{fitted, sum, quotient, computed, truth}
 use Rattle.c_meaning.specs.State.{Program, CState}
-use Rattle.c_ast.proofs.Ranges.{powers_grow, wider}
-use Rattle.c_ast.proofs.Modular.{modulo_in_range, modulo_of_held}
+use Rattle.iv_words.proofs.Ranges.{powers_grow, wider}
+use Rattle.iv_words.proofs.Modular.{modulo_in_range, modulo_of_held}
 use Rattle.c_ast.proofs.Promotions.{promotion_keeps}
-use Rattle.overflow_checks.specs.Parts.{kind_at, plain, greatest_constant, cast_to, double_product}
+use Rattle.overflow_checks.specs.Parts.{plain, greatest_constant, cast_to, double_product}
 use Rattle.overflow_checks.specs.UnsignedForms.{sum_fits, difference_fits, narrow_product_fits, does_not_wrap, wide_product_fits, divisor_is_some, shift_fits}
 use Rattle.overflow_checks.specs.Forms.{product_guard}
 use Rattle.overflow_checks.proofs.Tables.{CTable, IsWideOrSame, wide, same, promoted_unsigned}
 use Rattle.overflow_checks.proofs.Given.{Gives, IsGiven, of_kind, binary_gives, cast_gives, constant_gives}
 use Rattle.overflow_checks.proofs.Rows.{AreGiven, Tests}
 use Rattle.overflow_checks.proofs.Choices.{or_else_tests}
-use Rattle.overflow_checks.proofs.Widths.{width_least, width_most, kind_of_sign, range_of_sign, in_range_by_sign, IsDouble, doubled, in_double, product_gives}
+use Rattle.iv_words.proofs.Widths.{width_least, width_most, kind_of_sign, range_of_sign, in_range_by_sign, IsDouble, doubled, in_double}
+use Rattle.overflow_checks.proofs.DoubleProducts.{product_gives}
 use Rattle.overflow_checks.proofs.Alike.{fitted_held, usual_alike, compared_alike, AreNatural, left_kept, usual_natural, compared_natural}
 use Rattle.overflow_checks.proofs.Constants.{IsTyped, plain_typed, unsigned_typed}
 use Rattle.overflow_checks.proofs.Numbers.{from_zero, sum_in_double, product_in_double, sum_test, difference_test, most_test, product_test, quotient_held, quotient_from_zero}

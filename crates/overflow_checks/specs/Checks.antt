@@ -1,7 +1,7 @@
 -- Which checks an operator of a kind has, in the order in which they are made: for each one there is a guard.
 use Rattle.std.specs.Prelude.{Bool, true, false, ◌||◌, if◌then◌else◌, List, [], ◌∷◌}
-use Rattle.iv_base.specs.Kinds.{is_signed}
-use Rattle.iv_base.specs.declared.IntKind.{IntKind}
+use Rattle.iv_words.specs.Kinds.{is_signed}
+use Rattle.iv_words.specs.declared.IntKind.{IntKind}
 use Rattle.int_ops.specs.declared.Op.{Op}
 use Rattle.int_ops.specs.declared.Op.TheVariants.{Add, Sub, Mul, Div, Rem, Shl, Shr, Neg, Eq, Ne, Lt, Le, Gt, Ge}
 use Rattle.int_ops.specs.declared.Stop.{Stop}

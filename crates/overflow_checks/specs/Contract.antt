@@ -1,7 +1,7 @@
 -- What the guards and the computations of an operator promise, for all values of its operands.
 use Rattle.std.specs.Prelude.{◌≡◌, ◌≢◌, ◌↔◌, ◌⊎◌, ⊤, ℕ, ◌-◌, ◌<◌, ℤ, pos, IsTrue, IsSome, All, if◌then◌else◌, Some, Result, Ok, Err}
-use Rattle.iv_base.specs.Kinds.{in_range}
-use Rattle.iv_base.specs.declared.IntKind.{IntKind}
+use Rattle.iv_words.specs.Kinds.{in_range}
+use Rattle.iv_words.specs.declared.IntKind.{IntKind}
 use Rattle.iv_script.specs.declared.Reason.{Reason}
 use Rattle.int_ops.specs.Operators.{is_binary, exact}
 use Rattle.int_ops.specs.declared.Op.{Op}

@@ -1,8 +1,8 @@
 -- What holds of the checks, and which guards the contract refuses.
 use Rattle.std.specs.Prelude.{◌≡◌, ℤ, codes, IsTrue, Err}
-use Rattle.iv_base.specs.Kinds.{in_range}
-use Rattle.iv_base.specs.declared.IntKind.{IntKind}
-use Rattle.iv_base.specs.declared.IntKind.TheVariants.{I32}
+use Rattle.iv_words.specs.Kinds.{in_range}
+use Rattle.iv_words.specs.declared.IntKind.{IntKind}
+use Rattle.iv_words.specs.declared.IntKind.TheVariants.{I32}
 use Rattle.int_ops.specs.Operators.{is_binary, exact}
 use Rattle.int_ops.specs.declared.Op.{Op}
 use Rattle.int_ops.specs.declared.Op.TheVariants as op

@@ -1,18 +1,13 @@
 -- Of what the expressions are put together: kinds, constants, casts and operands. A tool of the proof; no contract for others cites it.
-use Rattle.std.specs.Prelude.{ℕ, ◌-◌, ◌*◌, ◌^◌, Bool, true, false, if◌then◌else◌, nat_eq}
-use Rattle.iv_base.specs.declared.IntKind.{IntKind}
-use Rattle.iv_base.specs.declared.IntKind.TheVariants.{U8, U16, U32, U64, I8, I16, I32, I64}
+use Rattle.std.specs.Prelude.{ℕ, ◌-◌, ◌*◌, ◌^◌, Bool, true, false}
+use Rattle.iv_words.specs.Kinds.{kind_at}
+use Rattle.iv_words.specs.declared.IntKind.{IntKind}
 use Rattle.c_ast.specs.declared.CScalar.TheVariants.{Int as Exact}
 use Rattle.c_ast.specs.declared.CType.TheVariants.{Value}
 use Rattle.c_ast.specs.declared.Suffix.TheVariants.{Plain, U}
 use Rattle.c_ast.specs.declared.CUnary.TheVariants.{Neg}
 use Rattle.c_ast.specs.declared.CBinary.TheVariants.{Sub, Mul}
 use Rattle.c_ast.specs.Syntax.{Expr, Number, Read, Address, Unary, Binary, Cast, Cond}
-
--- the kind of so many bits
-abbrev pub kind_at : ℕ → Bool → IntKind
-kind_at bits false = if nat_eq bits 8 then U8 else (if nat_eq bits 16 then U16 else (if nat_eq bits 32 then U32 else U64))
-kind_at bits true = if nat_eq bits 8 then I8 else (if nat_eq bits 16 then I16 else (if nat_eq bits 32 then I32 else I64))
 
 abbrev pub plain : ℕ → Expr
 plain n = Number n Plain

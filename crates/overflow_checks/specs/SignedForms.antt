@@ -3,7 +3,8 @@ use Rattle.std.specs.Prelude.{ℕ, ◌-◌, ◌^◌, true, false}
 use Rattle.c_ast.specs.declared.CUnary.TheVariants.{Neg}
 use Rattle.c_ast.specs.declared.CBinary.TheVariants.{Add, Sub, Mul, And, Xor, Shr, Eq, Ne, Lt, Le, Ge, AndAlso, OrElse}
 use Rattle.c_ast.specs.Syntax.{Expr, Unary, Binary, Cond}
-use Rattle.overflow_checks.specs.Parts.{kind_at, plain, unsigned, greatest_constant, least_constant, cast_to, double_product}
+use Rattle.iv_words.specs.Kinds.{kind_at}
+use Rattle.overflow_checks.specs.Parts.{plain, unsigned, greatest_constant, least_constant, cast_to, double_product}
 use Rattle.overflow_checks.specs.UnsignedForms.{does_not_wrap}
 
 -- the number is between the ends of so many bits

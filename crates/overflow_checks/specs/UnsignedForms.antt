@@ -2,7 +2,8 @@
 use Rattle.std.specs.Prelude.{ℕ, false}
 use Rattle.c_ast.specs.declared.CBinary.TheVariants.{Add, Div, Eq, Ne, Lt, Le, Ge, OrElse}
 use Rattle.c_ast.specs.Syntax.{Expr, Binary}
-use Rattle.overflow_checks.specs.Parts.{kind_at, plain, greatest_constant, cast_to, double_product}
+use Rattle.iv_words.specs.Kinds.{kind_at}
+use Rattle.overflow_checks.specs.Parts.{plain, greatest_constant, cast_to, double_product}
 
 -- a sum that wraps is below either operand
 abbrev pub sum_fits : ℕ → Expr → Expr → Expr

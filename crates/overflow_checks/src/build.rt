@@ -6,7 +6,7 @@ ghost use Rattle.c_ast.specs.View.{expr_of};
 ghost use Rattle.overflow_checks.specs.Parts as parts;
 
 use c_ast::{CBinary, CExpr, CScalar, CType, CUnary, Suffix};
-use iv_base::{Box, IntKind, Memory};
+use iv_words::{Box, IntKind, Memory};
 use std::alloc::Global;
 
 #[tactic(auto, using(c_ast::proofs::View::number_is))]

@@ -1,7 +1,7 @@
 //! Computations: which expression gives what an operator answers.
 
 ghost use Rattle.std.specs.Prelude.{◌≡◌, IsTrue, IfOk};
-ghost use Rattle.iv_base.specs.Kinds.{width, is_signed};
+ghost use Rattle.iv_words.specs.Kinds.{width, is_signed};
 ghost use Rattle.int_ops.specs.Operators.{IsKindWidth, is_allowed, is_binary};
 ghost use Rattle.c_ast.specs.View.{expr_of};
 ghost use Rattle.overflow_checks.specs.Contract.{IsOperand, IsComputation, IsMadeOf, computation_levels};
@@ -11,7 +11,7 @@ use crate::build::{binary, unary};
 use crate::row::{Row, of_row};
 use c_ast::{CBinary, CExpr, CUnary, Target};
 use int_ops::Op;
-use iv_base::{IntKind, Memory};
+use iv_words::{IntKind, Memory};
 use std::alloc::Global;
 
 impl<const BITS: u32, const SIGNED: bool> Row<BITS, SIGNED> {

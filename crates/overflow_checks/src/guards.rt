@@ -1,7 +1,7 @@
 //! Guards: which form is taken where.
 
 ghost use Rattle.std.specs.Prelude.{◌≡◌, IsTrue, IfOk};
-ghost use Rattle.iv_base.specs.Kinds.{width, is_signed};
+ghost use Rattle.iv_words.specs.Kinds.{width, is_signed};
 ghost use Rattle.int_ops.specs.Operators.{IsKindWidth, is_allowed, is_binary};
 ghost use Rattle.c_ast.specs.Targets.{table_of};
 ghost use Rattle.c_ast.specs.View.{expr_of};
@@ -14,7 +14,7 @@ use crate::row::{Row, is_constant, of_row};
 use crate::unsigned::{difference_fits, divisor_is_some};
 use c_ast::{CExpr, Target};
 use int_ops::{Op, Stop};
-use iv_base::{IntKind, Memory};
+use iv_words::{IntKind, Memory};
 use std::alloc::Global;
 
 /// The bits of `int`.

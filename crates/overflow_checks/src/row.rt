@@ -8,7 +8,7 @@ ghost use Rattle.overflow_checks.specs.Parts as parts;
 use crate::build::{binary, cast, plain, unary, unsigned};
 use c_ast::{CBinary, CExpr, CUnary};
 use int_ops::Range;
-use iv_base::{IntKind, Memory};
+use iv_words::{IntKind, Memory};
 use std::alloc::Global;
 
 /// The kind of so many bits.

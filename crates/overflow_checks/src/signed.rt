@@ -9,7 +9,7 @@ ghost use Rattle.overflow_checks.specs.SignedForms as forms;
 use crate::build::{binary, cast, choice, plain, unary, unsigned};
 use crate::row::Row;
 use c_ast::{CBinary, CExpr, CUnary};
-use iv_base::Memory;
+use iv_words::Memory;
 use std::alloc::Global;
 
 impl<const BITS: u32, const SIGNED: bool> Row<BITS, SIGNED> {

@@ -1,5 +1,5 @@
 ghost use Rattle.std.specs.Prelude.{◌≡◌, ◌≤◌, pos, IfOk, IsTrue};
-ghost use Rattle.iv_base.specs.Kinds.{in_range};
+ghost use Rattle.iv_words.specs.Kinds.{in_range};
 ghost use Rattle.c_ast.specs.View.{expr_of};
 ghost use Rattle.c_ast.specs.declared.Target.TheVariants.{T32};
 ghost use Rattle.overflow_checks.specs.Checks as checks;
@@ -11,7 +11,7 @@ use c_ast::{
     promote,
 };
 use int_ops::{Op, Stop, allowed, apply, fits};
-use iv_base::{IntKind, Memory, Word};
+use iv_words::{IntKind, Memory, Word};
 use std::alloc::Global;
 use std::process::Abort;
 

@@ -8,7 +8,7 @@ ghost use Rattle.overflow_checks.specs.UnsignedForms as forms;
 use crate::build::{binary, cast, plain};
 use crate::row::Row;
 use c_ast::{CBinary, CExpr};
-use iv_base::Memory;
+use iv_words::Memory;
 use std::alloc::Global;
 
 /// A difference from 0.

@@ -1,6 +1,6 @@
 -- An expression has at most one node for each token.
 use Rattle.std.proofs.Common.{◌≡◌, ℕ, pos, neg_ℤ, suc, ◌+◌, ◌≤◌, List, [], ◌∷◌, ◌++◌, map, refl, sym, ap, subst, arith, length}
-use Rattle.iv_base.specs.declared.Span.{Span}
+use Rattle.iv_words.specs.declared.Span.{Span}
 use Rattle.ivory_lexer.specs.declared.Token.{Token}
 use Rattle.ivory_tree.specs.Syntax as syntax
 use Rattle.ivory_tree.specs.Syntax.{ExprSyntax}

@@ -1,7 +1,7 @@
 -- Expressions stand where their tokens stand, and have the form of a tree.
 use Rattle.std.proofs.Common.{◌≡◌, ℕ, pos, neg_ℤ, Option, Some, None, suc, ◌<◌, ◌≤◌, List, [], ◌∷◌, ◌++◌, map, refl, sym, ap, ◌∙◌, subst, arith}
-use Rattle.iv_base.specs.declared.Name.{Name}
-use Rattle.iv_base.specs.declared.Span.{Span}
+use Rattle.iv_words.specs.declared.Name.{Name}
+use Rattle.iv_words.specs.declared.Span.{Span}
 use Rattle.ivory_lexer.specs.declared.Token.{Token}
 use Rattle.ivory_tree.specs.Syntax as syntax
 use Rattle.ivory_tree.specs.Syntax.{Word, ExprSyntax}

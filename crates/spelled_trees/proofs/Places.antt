@@ -1,6 +1,6 @@
 -- Where the nodes of a row stand: within it, one after another.
 use Rattle.std.proofs.Common.{ℕ, ◌<◌, ◌≤◌, [], ◌∷◌, ◌++◌, arith}
-use Rattle.iv_base.specs.declared.Span.{Span}
+use Rattle.iv_words.specs.declared.Span.{Span}
 use Rattle.ivory_lexer.specs.declared.Token.{Token}
 use Rattle.ivory_tree.specs.Nodes.{Node, At, Nodes, Nil, Cons, place, one, joined}
 use Rattle.ivory_tree.specs.Formed.{Placed, PlacedRow, last_end}

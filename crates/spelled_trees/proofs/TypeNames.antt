@@ -1,6 +1,6 @@
 -- Each name in a type or an area is the word of a name among its tokens.
 use Rattle.std.proofs.Common.{◌≡◌, ℕ, suc, Some, is_some, [], ◌∷◌, sym, subst}
-use Rattle.iv_base.specs.declared.Span.{Span}
+use Rattle.iv_words.specs.declared.Span.{Span}
 use Rattle.ivory_lexer.specs.declared.Token.{Token}
 use Rattle.ivory_tree.specs.Syntax.{TypeSyntax}
 use Rattle.ivory_tree.specs.View.{type_of, area_of}

@@ -1,6 +1,6 @@
 -- Types and areas have at most two nodes for each token.
 use Rattle.std.proofs.Common.{◌≡◌, ℕ, suc, is_some, ◌≤◌, length, ap, ◌∙◌, arith}
-use Rattle.iv_base.specs.declared.Span.{Span}
+use Rattle.iv_words.specs.declared.Span.{Span}
 use Rattle.ivory_lexer.specs.declared.Token.{Token}
 use Rattle.ivory_tree.specs.Syntax as syntax
 use Rattle.ivory_tree.specs.Syntax.{TypeSyntax}

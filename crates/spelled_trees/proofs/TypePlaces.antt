@@ -1,6 +1,6 @@
 -- Types and areas stand where their tokens stand, and have the form of a tree.
 use Rattle.std.proofs.Common.{◌≡◌, ℕ, suc, is_some, ◌++◌, refl, sym, ap, ◌∙◌, subst}
-use Rattle.iv_base.specs.declared.Span.{Span}
+use Rattle.iv_words.specs.declared.Span.{Span}
 use Rattle.ivory_lexer.specs.declared.Token.{Token}
 use Rattle.ivory_tree.specs.Syntax as syntax
 use Rattle.ivory_tree.specs.Syntax.{TypeSyntax}

@@ -1,6 +1,6 @@
 -- Readers of parts of statements, as functions of their own read them. The number is that of the levels that are left to nest.
 use Rattle.std.specs.Prelude.{ℕ, Option}
-use Rattle.iv_base.specs.declared.Name.{Name}
+use Rattle.iv_words.specs.declared.Name.{Name}
 use Rattle.ivory_lexer.specs.declared.Token.{Token}
 use Rattle.ivory_lexer.specs.declared.Mark.{Mark}
 use Rattle.ivory_lexer.specs.declared.Mark.TheVariants as mark

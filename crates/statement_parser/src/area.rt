@@ -6,7 +6,7 @@ ghost use Rattle.statement_parser.specs.Parts as parts;
 
 use crate::types::value;
 use expression_parser::{Fault, keyword, mark, number, span_of, starts_key, starts_mark, word};
-use iv_base::Box;
+use iv_words::Box;
 use ivory_lexer::{Key, Mark, Token};
 use ivory_tree::{AreaKind, AreaText, TypeText};
 use std::alloc::Global;

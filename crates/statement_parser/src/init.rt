@@ -7,7 +7,7 @@ ghost use Rattle.expression_parser.specs.Gives.{Gives};
 ghost use Rattle.module_grammar.specs.InitReader as reader;
 
 use expression_parser::{Fault, expression, mark, span_of, starts_mark};
-use iv_base::{Seq, Span};
+use iv_words::{Seq, Span};
 use ivory_lexer::{Mark, Token};
 use ivory_tree::InitText;
 use std::alloc::Global;

@@ -11,7 +11,7 @@ use crate::area::area_text;
 use crate::call::call;
 use crate::init::first_value;
 use expression_parser::{Fault, expression, keyword, mark, name, postfix, starts_mark, within};
-use iv_base::{Name, Span};
+use iv_words::{Name, Span};
 use ivory_lexer::{Key, Mark, Token, TokenKind};
 use ivory_tree::{AreaText, Expr, InitText, StmtKind};
 use std::alloc::Global;

@@ -12,7 +12,7 @@ ghost use Rattle.statement_parser.specs.Parts as parts;
 use crate::simple::{allocated, asserted, broken_off, called, copied, let_bound, returned, stored};
 use crate::types::number_within;
 use expression_parser::{Fault, expression, keyword, mark, name, span_of, starts_key};
-use iv_base::{Memory, Name, Seq, Span};
+use iv_words::{Memory, Name, Seq, Span};
 use ivory_lexer::{Key, Mark, Token, TokenKind};
 use ivory_tree::{Block, Expr, Stmt, StmtKind};
 use module_grammar::{StatementForm, statement_form};

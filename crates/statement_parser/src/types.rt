@@ -10,7 +10,7 @@ ghost use Rattle.statement_parser.specs.Parts as parts;
 
 use crate::area::area_text;
 use expression_parser::{Fault, int_kind, keyword, mark, number, span_of, starts_key, word};
-use iv_base::Span;
+use iv_words::Span;
 use ivory_lexer::{Key, Mark, Token, TokenKind};
 use ivory_tree::{RefText, RegionText, TypeKind, TypeText};
 use module_grammar::{ValueForm, value_form};

@@ -1,5 +1,5 @@
 use Rattle.std.proofs.Common.{◌≡◌, replicate}
-use Rattle.iv_base.specs.declared.IntKind.TheVariants.{U8}
+use Rattle.iv_words.specs.declared.IntKind.TheVariants.{U8}
 use Rattle.c_ast.specs.declared.CScalar.TheVariants.{Int}
 use Rattle.c_ast.specs.declared.CType.TheVariants.{Value}
 use Rattle.c_lower.proofs.import.parameters.Given as goal

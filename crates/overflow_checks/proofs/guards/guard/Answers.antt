@@ -1,6 +1,6 @@
 use Rattle.std.proofs.Common.{◌≡◌, sym, subst}
 use Rattle.std.proofs.lemmas.Result.{IfOk-weaker}
-use Rattle.iv_base.specs.Kinds.{width, is_signed}
+use Rattle.iv_words.specs.Kinds.{width, is_signed}
 use Rattle.c_ast.specs.Targets.{table_of}
 use Rattle.c_ast.specs.View.{expr_of}
 use Rattle.overflow_checks.specs.Contract.{IsGuard, IsMadeOf, guard_levels}

@@ -6,8 +6,8 @@ use Rattle.std.proofs.lemmas.Nat.{pow_pos, mod_below, pow-add}
 use Rattle.std.proofs.Math.Nat.{mod-eq_of_lt, div-add-mod', mul-le-mul_left}
 use Rattle.std.proofs.Math.IntN.{*ℤ_comm, +ℤ_comm}
 use borrow.Author.Differences.{up, down, same_in, same_out, sum_is_lem, neg_is, product_is}
-use Rattle.iv_base.specs.Kinds.{in_range_of}
-use Rattle.c_ast.specs.Conversions.{modulo}
+use Rattle.iv_words.specs.Kinds.{in_range_of}
+use Rattle.iv_words.specs.Bits.{modulo}
 
 -- they differ by a multiple of 2 ^ bits
 pub record Congruent (bits : ℕ) (a b : ℤ) : Type 0 where

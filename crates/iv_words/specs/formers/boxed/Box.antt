@@ -17,10 +17,10 @@ use Rattle.std.specs.contracts.boxed.Box as plain_row
 use Rattle.std.specs.declared.alloc.Global.{Global}
 use Rattle.std.specs.contracts.alloc.Global as heap
 use Rattle.std.specs.contracts.impls.GlobalAllocator.TheImpl.{ghosts}
-use Rattle.iv_base.specs.declared.boxed.Box.TheInside.{Inside}
-use Rattle.iv_base.specs.declared.boxed.Box.TheView.{view, invariant}
-use Rattle.iv_base.specs.contracts.boxed.Box as boxed
-use Rattle.iv_base.specs.contracts.boxed.Box.TheInside as inside
+use Rattle.iv_words.specs.declared.boxed.Box.TheInside.{Inside}
+use Rattle.iv_words.specs.declared.boxed.Box.TheView.{view, invariant}
+use Rattle.iv_words.specs.contracts.boxed.Box as boxed
+use Rattle.iv_words.specs.contracts.boxed.Box.TheInside as inside
 
 abbrev pub the_former : Former {0} → Former {0}
 the_former value = value

@@ -1,7 +1,7 @@
 -- The kinds of whole numbers: width, sign and range (C99 7.18.1.1; the signed ones in two's complement).
-use Rattle.std.specs.Prelude.{ℕ, ◌-◌, ◌^◌, ℤ, pos, ◌-ℤ◌, Bool, true, false, ◌&&◌, if◌then◌else◌, int_le}
-use Rattle.iv_base.specs.declared.kind.IntKind.{IntKind}
-use Rattle.iv_base.specs.declared.kind.IntKind.TheVariants.{U8, U16, U32, U64, I8, I16, I32, I64}
+use Rattle.std.specs.Prelude.{ℕ, ◌-◌, ◌/◌, ◌^◌, ℤ, pos, ◌-ℤ◌, Bool, true, false, ◌&&◌, if◌then◌else◌, int_le, nat_eq}
+use Rattle.iv_words.specs.declared.kind.IntKind.{IntKind}
+use Rattle.iv_words.specs.declared.kind.IntKind.TheVariants.{U8, U16, U32, U64, I8, I16, I32, I64}
 
 -- the number of bits
 abbrev pub width : IntKind → ℕ
@@ -23,6 +23,15 @@ is_signed I8 = true
 is_signed I16 = true
 is_signed I32 = true
 is_signed I64 = true
+
+-- the number of bytes of eight bits
+abbrev pub kind_bytes : IntKind → ℕ
+kind_bytes kind = width kind / 8
+
+-- the kind of so many bits, of those that there are
+abbrev pub kind_at : ℕ → Bool → IntKind
+kind_at bits false = if nat_eq bits 8 then U8 else (if nat_eq bits 16 then U16 else (if nat_eq bits 32 then U32 else U64))
+kind_at bits true = if nat_eq bits 8 then I8 else (if nat_eq bits 16 then I16 else (if nat_eq bits 32 then I32 else I64))
 
 -- the least and the greatest number of so many bits
 abbrev pub least_of : ℕ → Bool → ℤ

@@ -14,10 +14,10 @@ use Rattle.std.specs.formers.vec.Vec as vec
 use Rattle.std.specs.declared.alloc.Global.{Global}
 use Rattle.std.specs.contracts.alloc.Global as heap
 use Rattle.std.specs.contracts.impls.GlobalAllocator.TheImpl.{ghosts}
-use Rattle.iv_base.specs.declared.seq.Seq.TheInside.{Inside}
-use Rattle.iv_base.specs.declared.seq.Seq.TheView.{view, invariant}
-use Rattle.iv_base.specs.contracts.seq.Seq as seq
-use Rattle.iv_base.specs.contracts.seq.Seq.TheInside as inside
+use Rattle.iv_words.specs.declared.seq.Seq.TheInside.{Inside}
+use Rattle.iv_words.specs.declared.seq.Seq.TheView.{view, invariant}
+use Rattle.iv_words.specs.contracts.seq.Seq as seq
+use Rattle.iv_words.specs.contracts.seq.Seq.TheInside as inside
 
 abbrev pub the_former : Former {0} → Former {0}
 the_former elements = list elements

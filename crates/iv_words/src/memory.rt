@@ -6,7 +6,7 @@ pub struct Memory;
 
 impl From<AllocError> for Memory {
     ghost use Rattle.std.specs.Prelude.{◌≡◌};
-    ghost use Rattle.iv_base.specs.declared.memory.Memory.{Memory};
+    ghost use Rattle.iv_words.specs.declared.memory.Memory.{Memory};
 
     ghost from_gives = { λ _ m. m ≡ record {} };
 

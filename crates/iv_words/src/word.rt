@@ -35,6 +35,26 @@ impl Word {
         }
     }
 
+    /// The empty word with room for so many bytes: they are added later without another block of memory.
+    pub fn with_capacity(alloc: Global, capacity: usize) -> Result<Word, Memory>
+        ensures { IfOk result (λ w. w ≡ []) }
+    {
+        match Vec::with_capacity(alloc, capacity) {
+            Ok(bytes) => Ok(Word { bytes }),
+            Err(_) => Err(Memory),
+        }
+    }
+
+    /// A word of these bytes, in a block of just their length.
+    pub fn from_slice(alloc: Global, bytes: &[u8]) -> Result<Word, Memory>
+        ensures { IfOk result (λ w. w ≡ bytes.now) }
+    {
+        match Vec::from_slice(alloc, bytes) {
+            Ok(bytes) => Ok(Word { bytes }),
+            Err(_) => Err(Memory),
+        }
+    }
+
     pub fn len(&self) -> usize
         ensures { result ≡ length self.now }
     {
@@ -81,10 +101,7 @@ impl Word {
     pub fn copy(&self, alloc: Global) -> Result<Word, Memory>
         ensures { IfOk result (λ w. w ≡ self.now) }
     {
-        match Vec::from_slice(alloc, &self.bytes) {
-            Ok(bytes) => Ok(Word { bytes }),
-            Err(_) => Err(Memory),
-        }
+        Word::from_slice(alloc, &self.bytes)
     }
 }
 

@@ -1,5 +1,5 @@
 ghost use Rattle.std.specs.Prelude.{◌≡◌, ◌-◌, ◌^◌, ◌<◌, ◌≤◌, length};
-ghost use Rattle.iv_base.specs.Lines.{line, column};
+ghost use Rattle.iv_words.specs.Lines.{line, column};
 
 /// The line and the column of the byte place `at` in a text, both from 1. A line ends at byte 10.
 #[tactic(auto, using(crate::proofs::Columns::one_more))]

@@ -1,7 +1,7 @@
 -- The line and the column so far.
 use Rattle.std.proofs.Common.{◌≡◌, ◌+◌, ◌≤◌}
-use Rattle.iv_base.specs.Lines.{line, column}
-use Rattle.iv_base.proofs.lines.line_of.Given as goal
+use Rattle.iv_words.specs.Lines.{line, column}
+use Rattle.iv_words.proofs.lines.line_of.Given as goal
 
 abbrev pub invariant-loop-byte : goal.invariant-loop-byte
 invariant-loop-byte l = (l.line ≡ line l.text l.byte-index) × (l.column ≡ column l.text l.byte-index) × (l.column ≤ l.byte-index + 1)

@@ -35,11 +35,29 @@ impl<T> Seq<T> {
         }
     }
 
+    /// The empty list with room for so many elements: they are added later without another block of memory.
+    pub fn with_capacity(alloc: Global, capacity: usize) -> Result<Seq<T>, Memory>
+        ensures { IfOk result (λ s. s ≡ []) }
+    {
+        match Vec::with_capacity(alloc, capacity) {
+            Ok(items) => Ok(Seq { items }),
+            Err(_) => Err(Memory),
+        }
+    }
+
     /// The list of a `Vec`'s elements.
     pub fn from_vec(items: Vec<T>) -> Seq<T>
         ensures { result ≡ items.items }
     {
         Seq { items }
+    }
+
+    /// The elements as a `Vec`.
+    pub fn into_vec(self) -> Vec<T>
+        ensures { result.items ≡ self }
+    {
+        let Seq { items } = self;
+        items
     }
 
     pub fn len(&self) -> usize
@@ -79,6 +97,16 @@ impl<T: Drop> Seq<T> {
         self.items.push(x).map_err(|_| Memory)
     }
 
+    /// Gives the elements up to the end of the process: their memory is never freed, and none of them is dropped.
+    pub fn leak<'a>(self) -> &'a [T]
+    where
+        T: 'a,
+        ensures { result.now ≡ self }
+    {
+        let Seq { items } = self;
+        items.leak()
+    }
+
     /// Keeps the first `n` elements, or all where there are fewer.
     pub fn truncate(&mut self, n: usize)
         ensures { self.new ≡ take n self.old }
@@ -92,7 +120,7 @@ impl<T: Drop + Copied> Seq<T> {
     pub fn copy(&self, alloc: Global) -> Result<Seq<T>, Memory>
         ensures { IfOk result (λ s. s ≡ self.now) }
     {
-        let mut items = Seq::new(alloc);
+        let mut items = Seq::with_capacity(alloc, self.items.len())?;
         for x in self.items.as_slice() {
             items.push(x.copied(alloc)?)?;
         }

@@ -1,0 +1,4 @@
+pub mod Columns
+pub mod Widths
+pub mod Modular
+pub mod Ranges

@@ -1,0 +1,5 @@
+pub mod Bits
+pub mod Kinds
+pub mod Lines
+pub mod Words
+pub mod formers

@@ -1,6 +1,7 @@
 #!/usr/bin/env bash
 # Each file of examples/ gives C text that a C compiler takes without a warning. Skipped where there is no C compiler.
 top=$(cd "$(dirname "$0")/.." && pwd)
+"$top/ivoryc" --prove 2>/dev/null || exit 1
 command -v gcc >/dev/null || { echo "c_compiles: skipped, no gcc"; exit 0; }
 work=$(mktemp -d)
 trap 'rm -rf "$work"' EXIT

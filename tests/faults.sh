@@ -2,6 +2,7 @@
 # Texts that are no module, by the program: the status and the line of each, the limits of length and nesting, and a driver that is cut
 # after each byte.
 top=$(cd "$(dirname "$0")/.." && pwd)
+"$top/ivoryc" --prove 2>/dev/null || exit 1
 work=$(mktemp -d)
 trap 'rm -rf "$work"' EXIT
 failed=0
@@ -19,9 +20,6 @@ expect() {
     failed=1
   fi
 }
-
-# the first call may have to build the program, and says so
-"$top/ivoryc" emit "$top/examples/empty.iv" >/dev/null 2>&1
 
 text() { printf '%b' "$1" >"$work/a.iv"; }
 

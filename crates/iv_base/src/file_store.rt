@@ -44,8 +44,11 @@ fn read_front<F: Read>(file: &mut F, alloc: Global, limit: usize) -> Result<Word
     ensures { IfOk result (λ w. length w ≤ limit) }
 {
     let mut front = Word::new(alloc);
-    let mut chunk = [0u8; 4096];
+    let mut chunk = [0u8; 16_384];
     for _ in 0..u64::MAX {
+        if front.len() == limit {
+            return Ok(front);
+        }
         let wanted = chunk.len().min(limit - front.len());
         match file.read(&mut chunk[..wanted]) {
             Ok(0) => return Ok(front),

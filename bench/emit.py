@@ -1,67 +1,102 @@
 #!/usr/bin/env python3
-"""Instructions per input byte of `ivoryc emit` on modules of 100 to 3,000 calls. See README.md beside this file."""
+"""Instructions and memory of `ivoryc emit`, beside `tcc -c` on the C text that comes out. It prints the table of README.md beside this file, or
+writes it there with --write."""
 import os
 import re
+import resource
 import shutil
 import subprocess
 import sys
 import tempfile
-import time
 
 TOP = os.path.dirname(os.path.dirname(os.path.abspath(__file__)))
 PROGRAM = os.path.join(TOP, "crates", "ivoryc", "out", "ivoryc")
-CALLS = [100, 200, 400, 800, 1600, 3000]
-CALLS_PER_PROCEDURE = 10
+PAGE = os.path.join(TOP, "bench", "README.md")
+BEGIN, END = "<!-- made by emit.py -->\n", "<!-- end -->\n"
+LIMIT = 262_144
 
 
-def module(calls):
-    """A module text with so many calls of four imports."""
-    lines = ["module bench;", "import tick();", "import led(on : uint8_t);", "import pair(a : uint8_t, b : uint8_t);",
-             "import color(red : uint8_t, green : uint8_t, blue : uint8_t);"]
-    forms = [lambda n: "tick();", lambda n: f"led({n % 256});", lambda n: f"pair({n % 256}, {n * 7 % 256});",
-             lambda n: f"color({n % 256}, {n * 3 % 256}, {n * 5 % 256});"]
-    for first in range(0, calls, CALLS_PER_PROCEDURE):
-        lines.append(f"export proc p{first}() {{")
-        lines += ["  " + forms[n % len(forms)](n) for n in range(first, min(first + CALLS_PER_PROCEDURE, calls))]
-        lines.append("}")
-    return "\n".join(lines) + "\n"
+def procedures(count, calls, imports, call, name):
+    """A module with so many procedures of so many calls."""
+    bodies = ("export proc " + name(n) + "() {" + "".join(call(n * calls + i) for i in range(calls)) + "}\n" for n in range(count))
+    return "module bench;\n" + imports + "".join(bodies)
 
 
-def instructions(command, folder):
-    """The instructions of a command by callgrind, or its seconds where valgrind is not installed."""
-    if shutil.which("valgrind"):
-        run = subprocess.run(["valgrind", "--tool=callgrind", f"--callgrind-out-file={folder}/callgrind.out", *command],
-                             stdout=subprocess.DEVNULL, stderr=subprocess.PIPE, text=True, check=True)
-        return int(re.search(r"refs:\s+([\d,]+)", run.stderr).group(1).replace(",", "")), "instructions"
-    start = time.perf_counter()
-    subprocess.run(command, stdout=subprocess.DEVNULL, check=True)
-    return time.perf_counter() - start, "seconds"
+def texts():
+    """The compiled texts, each with its name."""
+    long = "import tick();\nimport led(on : uint8_t);\nimport color(red : uint8_t, green : uint8_t, blue : uint8_t);\n"
+    long_calls = [lambda n: "\n  tick();", lambda n: f"\n  led({n % 256});", lambda n: f"\n  color({n % 256}, {n * 3 % 256}, {n * 5 % 256});"]
+    short, short_calls = "import t();import a(x:uint8_t);", [lambda n: "t();", lambda n: f"a({n % 100});"]
+    yield "200 procedures of 15 calls", procedures(200, 15, long, lambda n: long_calls[n % 3](n), lambda n: f"procedure{n}")
+    yield "2,000 of 15, short names", procedures(2000, 15, short, lambda n: short_calls[n % 2](n), lambda n: f"p{n}")
+    yield "8,000 of 1", procedures(8000, 1, short, lambda n: short_calls[0](n), lambda n: f"p{n}")
+    imports = "".join(f"import i{n}(a : uint8_t, b : uint8_t);\n" for n in range(5800))
+    yield "5,800 imports", "module bench;\n" + imports
+    yield "one procedure of 37,000 calls", procedures(1, 37000, short, lambda n: f"a({n % 100});\n", lambda n: "p")
 
 
-def main():
-    if not os.path.exists(PROGRAM):
-        sys.exit("build the program first: ./ivoryc emit examples/empty.iv")
+def whole_language():
+    """Statements of many forms, which are read and then answered `not built yet`."""
+    piece = "if a < 5 { *p.x[a] = a + 1; } else { let b = g(a, 2); } map i : ix(8) { *q[i] = uint8_t(a % 7) *% 3; } assert(a != 0 && b == c); "
+    head, tail = "module m; proc f(a : uint32_t) { ", "}"
+    return head + piece * ((LIMIT - len(head) - len(tail)) // len(piece)) + tail
+
+
+def instructions(command):
+    """The instructions of a command, by callgrind."""
+    run = subprocess.run(["valgrind", "--tool=callgrind", "--callgrind-out-file=/dev/null", *command], stdout=subprocess.DEVNULL,
+                         stderr=subprocess.PIPE, text=True, check=False)
+    return int(re.search(r"refs:\s+([\d,]+)", run.stderr).group(1).replace(",", ""))
+
+
+def peak(command):
+    """The greatest resident size of a command, in bytes."""
+    code = "import resource, subprocess, sys; subprocess.run(sys.argv[1:], stdout=subprocess.DEVNULL, stderr=subprocess.DEVNULL); print(resource.getrusage(resource.RUSAGE_CHILDREN).ru_maxrss)"
+    return int(subprocess.run([sys.executable, "-c", code, *command], stdout=subprocess.PIPE, check=True).stdout) * 1024
+
+
+def row(name, text, folder, start):
+    path, written = os.path.join(folder, "m.iv"), os.path.join(folder, "m.c")
+    with open(path, "w") as file:
+        file.write(text)
+    command = [PROGRAM, "emit", path]
+    ours, bytes_held = instructions(command), peak(command) - start
+    with open(written, "wb") as file:
+        compiled = subprocess.run(command, stdout=file, stderr=subprocess.DEVNULL, check=False).returncode == 0
+    out, theirs, ratio = "", "", ""
+    if compiled:
+        out = f"{os.path.getsize(written):,}"
+        if shutil.which("tcc"):
+            other = instructions(["tcc", "-c", written, "-o", os.path.join(folder, "m.o")])
+            theirs, ratio = f"{other / 1e6:.1f}", f"{ours / other:.2f}"
+    return f"| {name} | {len(text):,} | {out} | {ours / 1e6:.1f} | {ours / len(text):.0f} | {theirs} | {ratio} | {bytes_held / len(text):.0f} |\n"
+
+
+def table():
     with tempfile.TemporaryDirectory() as folder:
         empty = os.path.join(folder, "empty.iv")
         with open(empty, "w") as file:
             file.write("module m;\n")
-        start, unit = instructions([PROGRAM, "emit", empty], folder)
-        per_byte = []
-        print(f"{'calls':>6} {'bytes in':>9} {'bytes out':>9} {unit:>14} {'per byte':>9} {'tcc -c':>14}")
-        for calls in CALLS:
-            path, written = os.path.join(folder, "m.iv"), os.path.join(folder, "m.c")
-            text = module(calls)
-            with open(path, "w") as file:
-                file.write(text)
-            with open(written, "wb") as file:
-                subprocess.run([PROGRAM, "emit", path], stdout=file, check=True)
-            cost, _ = instructions([PROGRAM, "emit", path], folder)
-            per_byte.append((cost - start) / len(text))
-            other = "-"
-            if shutil.which("tcc"):
-                other = instructions(["tcc", "-c", written, "-o", os.path.join(folder, "m.o")], folder)[0]
-            print(f"{calls:>6} {len(text):>9} {os.path.getsize(written):>9} {cost:>14} {per_byte[-1]:>9.1f} {other:>14}")
-        print(f"largest to smallest: {per_byte[-1] / per_byte[0]:.2f}")
+        start = peak([PROGRAM, "emit", empty])
+        lines = ["| Text | Bytes in | Bytes out | Instructions, millions | for each byte read | `tcc -c`, millions | ratio | Bytes of memory for each byte read |\n",
+                 "|---|---|---|---|---|---|---|---|\n"]
+        lines += [row(name, text, folder, start) for name, text in texts()]
+        lines.append(row("statements of the whole language, read alone", whole_language(), folder, start))
+    return "".join(lines)
+
+
+def main():
+    if not shutil.which("valgrind") or not os.path.exists(PROGRAM):
+        sys.exit("valgrind and the built program are needed: ./ivoryc --prove builds it")
+    made = table()
+    if sys.argv[1:] != ["--write"]:
+        print(made, end="")
+        return
+    with open(PAGE) as file:
+        page = file.read()
+    before, rest = page.split(BEGIN)
+    with open(PAGE, "w") as file:
+        file.write(before + BEGIN + made + END + rest.split(END)[1])
 
 
 main()

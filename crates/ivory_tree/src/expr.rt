@@ -4,7 +4,7 @@ use iv_words::{Box, Copied, IntKind, Memory, Name, Seq, Span, Word};
 use std::alloc::Global;
 
 /// An operator before its operand: `-`, `!`, `~` or `*`, in this order.
-#[derive(Clone, Copy, Debug, Drop, PartialEq, Eq)]
+#[derive(Clone, Copy, Drop, PartialEq, Eq)]
 pub enum PrefixOp {
     Neg,
     Not,
@@ -14,7 +14,7 @@ pub enum PrefixOp {
 
 /// An operator between two operands, from the loosest level to the tightest:
 /// `||`; `&&`; `|`; `^`; `&`; `== !=`; `< <= > >=`; `<< >>`; `+ - +% -%`; `* / % *%`.
-#[derive(Clone, Copy, Debug, Drop, PartialEq, Eq)]
+#[derive(Clone, Copy, Drop, PartialEq, Eq)]
 pub enum BinOp {
     OrElse,
     AndAlso,
@@ -41,7 +41,7 @@ pub enum BinOp {
 
 /// An expression and where it stands, from its first token to its last, parentheses around it aside.
 #[cycle(expr)]
-#[derive(Debug, Drop, PartialEq, Eq)]
+#[derive(Drop, PartialEq, Eq)]
 pub struct Expr {
     pub kind: ExprKind,
     pub span: Span,
@@ -53,7 +53,7 @@ pub struct Expr {
 /// operand with the operators of one level that follow it, each with its right operand, and stands for the left-nested
 /// tree; a `Postfix` is an operand with the fields and indices that follow it. `Cond` is `a ? b : c`.
 #[cycle(expr)]
-#[derive(Debug, Drop, PartialEq, Eq)]
+#[derive(Drop, PartialEq, Eq)]
 pub enum ExprKind {
     Lit(i128),
     Truth(bool),
@@ -73,7 +73,7 @@ pub enum ExprKind {
 
 /// An operator of a chain, where it stands, and its right operand.
 #[cycle(expr)]
-#[derive(Debug, Drop, PartialEq, Eq)]
+#[derive(Drop, PartialEq, Eq)]
 pub struct Link {
     pub op: BinOp,
     pub at: Span,
@@ -82,7 +82,7 @@ pub struct Link {
 
 /// A part of what stands before it: a field, or an element by its index, with the place from `[` to `]`.
 #[cycle(expr)]
-#[derive(Debug, Drop, PartialEq, Eq)]
+#[derive(Drop, PartialEq, Eq)]
 pub enum Step {
     Field(Name),
     Index(Box<Expr>, Span),
@@ -178,7 +178,7 @@ fn copied_box(e: &Box<Expr>, alloc: Global) -> Result<Box<Expr>, Memory>
 fn copied_links(links: &Seq<Link>, alloc: Global) -> Result<Seq<Link>, Memory>
     ensures { IfOk result (λ c. c ≡ links.now) }
 {
-    let mut items = Seq::new(alloc);
+    let mut items = Seq::with_capacity(alloc, links.len())?;
     for link in links.iter() {
         items.push(link.copy(alloc)?)?;
     }
@@ -189,7 +189,7 @@ fn copied_links(links: &Seq<Link>, alloc: Global) -> Result<Seq<Link>, Memory>
 fn copied_steps(steps: &Seq<Step>, alloc: Global) -> Result<Seq<Step>, Memory>
     ensures { IfOk result (λ c. c ≡ steps.now) }
 {
-    let mut items = Seq::new(alloc);
+    let mut items = Seq::with_capacity(alloc, steps.len())?;
     for step in steps.iter() {
         items.push(step.copy(alloc)?)?;
     }

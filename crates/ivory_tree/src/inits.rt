@@ -7,7 +7,7 @@ use std::alloc::Global;
 /// The first value of an area: an expression for a stored value, or one initializer for each element or field from the
 /// first on, in braces, with the place of these.
 #[cycle(init)]
-#[derive(Debug, Drop, PartialEq, Eq)]
+#[derive(Drop, PartialEq, Eq)]
 pub enum InitText {
     One(Expr),
     Many(Seq<InitText>, Span),
@@ -30,7 +30,7 @@ impl InitText {
 fn copied_inits(inits: &Seq<InitText>, alloc: Global) -> Result<Seq<InitText>, Memory>
     ensures { IfOk result (λ c. c ≡ inits.now) }
 {
-    let mut items = Seq::new(alloc);
+    let mut items = Seq::with_capacity(alloc, inits.len())?;
     for init in inits.iter() {
         items.push(init.copy(alloc)?)?;
     }

@@ -8,7 +8,7 @@ use iv_words::{Copied, IntKind, Memory, Name, Seq, Span};
 use std::alloc::Global;
 
 /// A field of bit data with its width in bits; `truth` where it is declared as `bool`, of one bit.
-#[derive(Debug, Drop, PartialEq, Eq)]
+#[derive(Drop, PartialEq, Eq)]
 pub struct BitField {
     pub name: Name,
     pub width: u64,
@@ -17,7 +17,7 @@ pub struct BitField {
 }
 
 /// `bitdata NAME : WORD { .. }` with its fields in order, the first in the lowest bits.
-#[derive(Debug, Drop, PartialEq, Eq)]
+#[derive(Drop, PartialEq, Eq)]
 pub struct BitsItem {
     pub name: Name,
     pub word: IntKind,
@@ -26,7 +26,7 @@ pub struct BitsItem {
 }
 
 /// A field of a struct, from its name to its `;`.
-#[derive(Debug, Drop, PartialEq, Eq)]
+#[derive(Drop, PartialEq, Eq)]
 pub struct AreaField {
     pub name: Name,
     pub area: AreaText,
@@ -34,7 +34,7 @@ pub struct AreaField {
 }
 
 /// `struct NAME { .. }` with its fields in order.
-#[derive(Debug, Drop, PartialEq, Eq)]
+#[derive(Drop, PartialEq, Eq)]
 pub struct StructItem {
     pub name: Name,
     pub fields: Seq<AreaField>,
@@ -42,7 +42,7 @@ pub struct StructItem {
 }
 
 /// `area NAME : AREA = INIT;`, with or without `const` before it and an initializer.
-#[derive(Debug, Drop, PartialEq, Eq)]
+#[derive(Drop, PartialEq, Eq)]
 pub struct AreaItem {
     pub name: Name,
     pub constant: bool,
@@ -52,7 +52,7 @@ pub struct AreaItem {
 }
 
 /// A parameter with its type.
-#[derive(Debug, Drop, PartialEq, Eq)]
+#[derive(Drop, PartialEq, Eq)]
 pub struct Param {
     pub name: Name,
     pub ty: TypeText,
@@ -60,7 +60,7 @@ pub struct Param {
 }
 
 /// `NAME(PARAMS) -> RESULT`. That of an import has the place of its item, from `import` to `;`.
-#[derive(Debug, Drop, PartialEq, Eq)]
+#[derive(Drop, PartialEq, Eq)]
 pub struct Header {
     pub name: Name,
     pub params: Seq<Param>,
@@ -69,7 +69,7 @@ pub struct Header {
 }
 
 /// `requires(COND)`, where `before`, or `ensures(COND)`.
-#[derive(Debug, Drop, PartialEq, Eq)]
+#[derive(Drop, PartialEq, Eq)]
 pub struct Contract {
     pub before: bool,
     pub cond: Expr,
@@ -77,7 +77,7 @@ pub struct Contract {
 }
 
 /// A procedure with its contracts and its body; `exported` where it is written with `export`.
-#[derive(Debug, Drop, PartialEq, Eq)]
+#[derive(Drop, PartialEq, Eq)]
 pub struct ProcItem {
     pub exported: bool,
     pub header: Header,
@@ -87,7 +87,7 @@ pub struct ProcItem {
 }
 
 /// An item of a module.
-#[derive(Debug, Drop, PartialEq, Eq)]
+#[derive(Drop, PartialEq, Eq)]
 pub enum Item {
     Bits(BitsItem),
     Struct(StructItem),
@@ -97,7 +97,7 @@ pub enum Item {
 }
 
 /// A module: its name and its items in order.
-#[derive(Debug, Drop, PartialEq, Eq)]
+#[derive(Drop, PartialEq, Eq)]
 pub struct Module {
     pub name: Name,
     pub items: Seq<Item>,

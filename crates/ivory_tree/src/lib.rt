@@ -7,8 +7,6 @@ mod inits;
 mod items;
 pub mod laws;
 mod stmt;
-#[cfg(test)]
-mod tests;
 mod types;
 
 pub use expr::{BinOp, Expr, ExprKind, Link, PrefixOp, Step};

@@ -7,7 +7,7 @@ use iv_words::{Copied, Memory, Name, Seq, Span};
 use std::alloc::Global;
 
 /// A call of an import or of an earlier procedure, with its arguments, from the name to the `)`.
-#[derive(Debug, Drop, PartialEq, Eq)]
+#[derive(Drop, PartialEq, Eq)]
 pub struct CallText {
     pub name: Name,
     pub args: Seq<Expr>,
@@ -29,7 +29,7 @@ impl CallText {
 
 /// Statements in braces, with the place of these. The block of an `else if` has that one statement and its place.
 #[cycle(stmt)]
-#[derive(Debug, Drop, PartialEq, Eq)]
+#[derive(Drop, PartialEq, Eq)]
 pub struct Block {
     pub stmts: Seq<Stmt>,
     pub span: Span,
@@ -37,7 +37,7 @@ pub struct Block {
 
 /// A statement and where it stands.
 #[cycle(stmt)]
-#[derive(Debug, Drop, PartialEq, Eq)]
+#[derive(Drop, PartialEq, Eq)]
 pub struct Stmt {
     pub kind: StmtKind,
     pub span: Span,
@@ -50,7 +50,7 @@ pub struct Stmt {
 /// name of its index, the number N of its `ix(N)` and, where it has one, its bound. `NoAlloc`, `NoBreak` and `NoReturn` are
 /// the blocks that take a permission away.
 #[cycle(stmt)]
-#[derive(Debug, Drop, PartialEq, Eq)]
+#[derive(Drop, PartialEq, Eq)]
 pub enum StmtKind {
     Let(Name, Expr),
     LetCall(Name, CallText),
@@ -218,7 +218,7 @@ fn downto_with(
 fn copied_stmts(stmts: &Seq<Stmt>, alloc: Global) -> Result<Seq<Stmt>, Memory>
     ensures { IfOk result (λ c. c ≡ stmts.now) }
 {
-    let mut items = Seq::new(alloc);
+    let mut items = Seq::with_capacity(alloc, stmts.len())?;
     for stmt in stmts.iter() {
         items.push(stmt.copy(alloc)?)?;
     }

@@ -4,7 +4,7 @@ use iv_words::{Box, Copied, IntKind, Memory, Span, Word};
 use std::alloc::Global;
 
 /// Where the area of a reference lives: in the module, or in a region that a procedure has a name for.
-#[derive(Debug, Drop, PartialEq, Eq)]
+#[derive(Drop, PartialEq, Eq)]
 pub enum RegionText {
     Global,
     Named(Word),
@@ -24,7 +24,7 @@ impl RegionText {
 
 /// A type as it is written, and where.
 #[cycle(text)]
-#[derive(Debug, Drop, PartialEq, Eq)]
+#[derive(Drop, PartialEq, Eq)]
 pub struct TypeText {
     pub kind: TypeKind,
     pub span: Span,
@@ -32,7 +32,7 @@ pub struct TypeText {
 
 /// The forms of a type: `bool`, a whole number, an index `ix(N)`, bit data by its name, or a reference.
 #[cycle(text)]
-#[derive(Debug, Drop, PartialEq, Eq)]
+#[derive(Drop, PartialEq, Eq)]
 pub enum TypeKind {
     Bool,
     Int(IntKind),
@@ -43,7 +43,7 @@ pub enum TypeKind {
 
 /// A reference to an area of a region; `constant` where it is written with `const`, so that nothing is stored through it.
 #[cycle(text)]
-#[derive(Debug, Drop, PartialEq, Eq)]
+#[derive(Drop, PartialEq, Eq)]
 pub struct RefText {
     pub constant: bool,
     pub region: RegionText,
@@ -52,7 +52,7 @@ pub struct RefText {
 
 /// The type of a memory area as it is written, and where.
 #[cycle(text)]
-#[derive(Debug, Drop, PartialEq, Eq)]
+#[derive(Drop, PartialEq, Eq)]
 pub struct AreaText {
     pub kind: AreaKind,
     pub span: Span,
@@ -60,7 +60,7 @@ pub struct AreaText {
 
 /// The forms of an area: one stored value, an array with its length, or a struct by its name.
 #[cycle(text)]
-#[derive(Debug, Drop, PartialEq, Eq)]
+#[derive(Drop, PartialEq, Eq)]
 pub enum AreaKind {
     Stored(Box<TypeText>),
     Array(u64, Box<AreaText>),

@@ -3,9 +3,5 @@ pub mod Names
 pub mod Conversions
 pub mod Ranges
 pub mod Promotions
-pub mod Layouts
-pub mod Windows
-pub mod Parts
-pub mod Paths
-pub mod Rounds
+pub mod Scalars
 pub mod Structs

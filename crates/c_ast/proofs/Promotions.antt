@@ -16,6 +16,7 @@ use Rattle.c_ast.specs.Targets.{TargetTable, table_of, arith_bits, arith_signed,
 use Rattle.c_ast.specs.Conversions.{can_hold}
 use Rattle.c_ast.specs.TargetLaws.{SoundTable, TargetsAreSound, PromotionKeepsValues, SignedCommonKeepsValues}
 use Rattle.iv_words.proofs.Ranges.{powers_grow, wider}
+use Rattle.iv_words.proofs.Widths.{width_least}
 use Rattle.c_ast.proofs.Ranges.{represented}
 
 -- ---- the tables
@@ -51,6 +52,7 @@ targets_are_sound T32 = record {
   below_int = below_int_32;
   exact_bits = exact_bits_32;
   exact_sign = exact_sign_32;
+  some_alignment = omega arith;
 }
 
 -- ---- promotions
@@ -71,18 +73,8 @@ module _ (t : TargetTable) (sound : SoundTable t) where
       → IsTrue (can_hold t (Computed (promote_small t bits signed)) v)
   promote_small_keeps bits signed v one le h = promoted_by bits signed v one le h (represents t.int_bits true bits signed) refl
 
-  width_least : (kind : IntKind) → 1 ≤ width kind
-  width_least U8 = omega arith
-  width_least U16 = omega arith
-  width_least U32 = omega arith
-  width_least U64 = omega arith
-  width_least I8 = omega arith
-  width_least I16 = omega arith
-  width_least I32 = omega arith
-  width_least I64 = omega arith
-
   exact_keeps : (kind : IntKind) (v : ℤ) → IsTrue (in_range kind v) → (found : Option Arith) → t.exact kind ≡ found → IsTrue (can_hold t (Computed (promote_exact t kind found)) v)
-  exact_keeps kind v h None e = promote_small_keeps (width kind) (is_signed kind) v (width_least kind) (sound.below_int kind e) h
+  exact_keeps kind v h None e = promote_small_keeps (width kind) (is_signed kind) v (omega (arith, width_least kind)) (sound.below_int kind e) h
   exact_keeps kind v h (Some a) e =
       subst (λ bits. IsTrue (in_range_of bits (arith_signed a) v)) (sym (sound.exact_bits kind a e)) (subst (λ signed. IsTrue (in_range_of (width kind) signed v)) (sym (sound.exact_sign kind a e)) h)
 

@@ -1,22 +1,19 @@
 -- The struct that is found for a name is the one that the name stands for.
 use Rattle.std.proofs.Common.{◌≡◌, ℕ, zero, suc, ◌+◌, ◌≤◌, ◌<◌, List, [], ◌∷◌, ◌++◌, length, take, drop, get_or, Option, Some, None, Bool, true, false, if◌then◌else◌, refl, sym, ◌∙◌, ap, subst, arith}
 use Rattle.iv_words.specs.Words.{same_word}
-use Rattle.c_ast.specs.Trees.{Struct, Row, End, Field}
-use Rattle.c_ast.specs.Layouts.{Metric, up, align, align_row, size, end_row}
+use Rattle.type_trees.specs.Trees.{Struct, Row, End, Field}
+use Rattle.type_trees.specs.Layouts.{Metric, align, align_row, size, end_row}
+use Rattle.type_trees.specs.Multiples.{up}
 use Rattle.c_ast.specs.declared.types.CScalar.{CScalar}
 use Rattle.c_ast.specs.declared.unit.CStruct.{CStruct}
 use Rattle.c_ast.specs.declared.unit.CMember.{CMember}
-use Rattle.c_ast.proofs.Layouts.{up_from}
-use Rattle.c_ast.proofs.Parts.{end_from}
+use Rattle.type_trees.proofs.Multiples.{up_from}
+use Rattle.type_trees.proofs.Parts.{end_from}
 use Rattle.c_ast.specs.declared.types.CBase.{CBase}
 use Rattle.c_ast.specs.declared.types.CBase.TheVariants.{Struct as Named}
 use Rattle.c_ast.specs.Syntax.{Name}
 use Rattle.c_ast.specs.Places.{place_from}
 use Rattle.c_ast.specs.Structs.{CTree, look, or_empty, base_tree, row_of, struct_of, table, tree, times}
-
-pub one_le : {S N : Type 0} (m : Metric S) (r : Row S N) → 1 ≤ align_row m r
-one_le m End = omega arith
-one_le m (Field f a r) = omega (arith, one_le m r)
 
 pub look_append : (tbl more : List (Name × CTree)) (w : Name) (a : CTree) → look tbl w ≡ Some a → look (tbl ++ more) w ≡ Some a
 look_append [] more w a h = absurd (cc)

@@ -10,7 +10,7 @@ use Rattle.c_ast.specs.declared.unit.CMember.{CMember}
 use Rattle.c_ast.specs.declared.unit.CStruct.{CStruct}
 use Rattle.c_ast.specs.Syntax.{Name}
 use Rattle.c_ast.specs.TargetExamples.{narrow}
-use Rattle.c_ast.specs.Layouts.{align, size, lay}
+use Rattle.type_trees.specs.Layouts.{align, size, lay}
 use Rattle.c_ast.specs.Scalars.{metric}
 use Rattle.c_ast.specs.Structs.{tree, layout, size_of, align_of, offset_of}
 

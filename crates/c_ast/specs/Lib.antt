@@ -8,8 +8,6 @@ pub mod TargetLaws
 pub mod TargetExamples
 pub mod Exports
 pub mod Examples
-pub mod Trees
-pub mod Layouts
 pub mod Scalars
 pub mod Structs
 pub mod Places

@@ -4,7 +4,8 @@ use Rattle.iv_words.specs.Words.{same_word}
 use Rattle.c_ast.specs.declared.unit.CStruct.{CStruct}
 use Rattle.c_ast.specs.declared.unit.CMember.{CMember}
 use Rattle.c_ast.specs.Syntax.{Name}
-use Rattle.c_ast.specs.Layouts.{Metric, up, align_row, end_row}
+use Rattle.type_trees.specs.Layouts.{Metric, align_row, end_row}
+use Rattle.type_trees.specs.Multiples.{up}
 use Rattle.c_ast.specs.Structs.{CRow, CTree, base_tree, times, row_of, table}
 use Rattle.c_ast.specs.declared.types.CScalar.{CScalar}
 

@@ -6,7 +6,7 @@ use Rattle.c_ast.specs.declared.types.Target.{Target}
 use Rattle.c_ast.specs.declared.types.CScalar.{CScalar}
 use Rattle.c_ast.specs.declared.types.CScalar.TheVariants.{Truth, Int}
 use Rattle.c_ast.specs.Targets.{TargetTable, table_of}
-use Rattle.c_ast.specs.Layouts.{Metric}
+use Rattle.type_trees.specs.Layouts.{Metric}
 
 abbrev pub scalar_bytes : CScalar → ℕ
 scalar_bytes Truth = 1

@@ -10,8 +10,8 @@ use Rattle.c_ast.specs.declared.unit.CMember.{CMember}
 use Rattle.c_ast.specs.declared.unit.CStruct.{CStruct}
 use Rattle.c_ast.specs.Syntax.{Name}
 use Rattle.c_ast.specs.Scalars.{metric_of}
-use Rattle.c_ast.specs.Trees.{Tree, Leaf, Many, Struct, Row, End, Field}
-use Rattle.c_ast.specs.Layouts.{Metric, align, size, lay, offset_row}
+use Rattle.type_trees.specs.Trees.{Tree, Leaf, Many, Struct, Row, End, Field}
+use Rattle.type_trees.specs.Layouts.{Metric, align, size, lay, offset_row}
 
 abbrev pub CTree : Type 0
 CTree = Tree CScalar Name

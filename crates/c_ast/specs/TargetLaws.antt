@@ -10,7 +10,7 @@ use Rattle.c_ast.specs.Targets.{TargetTable, table_of, arith_bits, arith_signed,
 use Rattle.c_ast.specs.Conversions.{can_hold}
 
 -- The least widths (5.2.4.2.1); a type of less rank is no wider (6.2.5); an exact-width type is one of its width and sign (7.18.1.1),
--- and one below int is no wider than int.
+-- and one below int is no wider than int. There is an alignment (6.2.6.1).
 pub record SoundTable (t : TargetTable) : Type 0 where
   pub int_least : 16 ≤ t.int_bits
   pub long_least : 32 ≤ t.long_bits
@@ -20,6 +20,7 @@ pub record SoundTable (t : TargetTable) : Type 0 where
   pub below_int : (kind : IntKind) → t.exact kind ≡ None → width kind ≤ t.int_bits
   pub exact_bits : (kind : IntKind) (a : Arith) → t.exact kind ≡ Some a → arith_bits t a ≡ width kind
   pub exact_sign : (kind : IntKind) (a : Arith) → t.exact kind ≡ Some a → arith_signed a ≡ is_signed kind
+  pub some_alignment : 1 ≤ t.greatest_alignment
 
 abbrev pub TargetsAreSound : Type 0
 TargetsAreSound = (t : Target) → SoundTable (table_of t)

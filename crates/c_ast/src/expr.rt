@@ -5,7 +5,7 @@ use iv_words::{Box, Copied, Memory, Seq, Word};
 use std::alloc::Global;
 
 /// The suffix of an integer constant: none, `u`, `ll` or `ull` (C99 6.4.4.1).
-#[derive(Clone, Copy, Debug, Drop, PartialEq, Eq)]
+#[derive(Clone, Copy, Drop, PartialEq, Eq)]
 pub enum Suffix {
     Plain,
     U,
@@ -14,7 +14,7 @@ pub enum Suffix {
 }
 
 /// A unary operator: `-`, `~` or `!` (C99 6.5.3.3).
-#[derive(Clone, Copy, Debug, Drop, PartialEq, Eq)]
+#[derive(Clone, Copy, Drop, PartialEq, Eq)]
 pub enum CUnary {
     Neg,
     Flip,
@@ -22,7 +22,7 @@ pub enum CUnary {
 }
 
 /// A binary operator (C99 6.5.5 to 6.5.14): `+ - * / % & | ^ << >> == != < <= > >= && ||`, in this order.
-#[derive(Clone, Copy, Debug, Drop, PartialEq, Eq)]
+#[derive(Clone, Copy, Drop, PartialEq, Eq)]
 pub enum CBinary {
     Add,
     Sub,
@@ -47,7 +47,7 @@ pub enum CBinary {
 /// An expression (C99 6.5): a decimal constant below 2^64, the value or the address of a place, an operator, a cast, or
 /// `a ? b : c`.
 #[cycle(tree)]
-#[derive(Debug, Drop, PartialEq, Eq)]
+#[derive(Drop, PartialEq, Eq)]
 pub enum CExpr {
     Number(u64, Suffix),
     Read(CPlace),
@@ -61,7 +61,7 @@ pub enum CExpr {
 /// A place (an lvalue, C99 6.3.2.1): a name, what a pointer points to, a member of a struct, or an element of an array
 /// that is a member.
 #[cycle(tree)]
-#[derive(Debug, Drop, PartialEq, Eq)]
+#[derive(Drop, PartialEq, Eq)]
 pub enum CPlace {
     Var(Word),
     At(Box<CExpr>),
@@ -71,7 +71,7 @@ pub enum CPlace {
 
 /// An initializer (C99 6.7.8): of a scalar, `{0}` of anything, or one for each element or member from the first on.
 #[cycle(init)]
-#[derive(Debug, Drop, PartialEq, Eq)]
+#[derive(Drop, PartialEq, Eq)]
 pub enum CInit {
     One(CExpr),
     Zero,

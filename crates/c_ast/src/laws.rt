@@ -2,7 +2,7 @@ ghost use Rattle.c_ast.specs.ConversionLaws.{HeldNumbersStay, ConvertedNumbersAr
 ghost use Rattle.c_ast.specs.TargetLaws.{TargetsAreSound, PromotionKeepsValues, SignedCommonKeepsValues};
 ghost use Rattle.c_ast.specs.TargetExamples.{PromotionExamples, CommonExamples, NarrowConstantExamples, NarrowIsSound};
 ghost use Rattle.c_ast.specs.Examples.{Exported};
-ghost use Rattle.c_ast.specs.LayoutLaws.{ScalarsInOrder, LeastOffsets, PartsInRow, PartsWithin};
+ghost use Rattle.c_ast.specs.LayoutLaws.{ScalarsInOrder, TypesHaveAlignments};
 ghost use Rattle.c_ast.specs.LayoutExamples.{PaddedExamples, NestedExamples, AlignedExamples, NamedExamples};
 
 /// A conversion keeps a number that the type holds, and gives numbers that it holds.
@@ -37,17 +37,15 @@ pub fn export_examples()
     ensures { Exported }
 {}
 
-/// Where the scalars of a type stand: in order of declaration, apart from one another and within the size, each member at the
-/// least offset that its alignment allows, and those of a part in a row.
+/// The scalars of a type stand in order of declaration, apart from one another and within the size; each type has an
+/// alignment, on every target whose table is sound.
 pub fn layout_laws()
     ensures order { ScalarsInOrder }
-    ensures least { LeastOffsets }
-    ensures row { PartsInRow }
-    ensures within { PartsWithin }
+    ensures aligned { TypesHaveAlignments }
 {}
 
 /// Sizes, alignments and offsets of small structs.
-#[tactic(auto, unfolding(crate::specs::Layouts::up))]
+#[tactic(auto, unfolding(type_trees::specs::Multiples::up))]
 pub fn layout_examples()
     ensures padded { PaddedExamples }
     ensures nested { NestedExamples }

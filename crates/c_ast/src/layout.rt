@@ -4,7 +4,8 @@
 ghost use Rattle.std.specs.Prelude.{◌≡◌, [], ◌≤◌, ◌<◌, ◌^◌, length, IfSome};
 ghost use Rattle.c_ast.specs.declared.types.CBase.TheVariants.{Struct as Named};
 ghost use Rattle.c_ast.specs.Targets.{table_of};
-ghost use Rattle.c_ast.specs.Layouts.{up, align_row, size, offset_row};
+ghost use Rattle.type_trees.specs.Multiples.{up};
+ghost use Rattle.type_trees.specs.Layouts.{align_row, size, offset_row};
 ghost use Rattle.c_ast.specs.Scalars.{scalar_bytes, scalar_alignment, metric_of};
 ghost use Rattle.c_ast.specs.Places.{place_from, member_tree, member_row, row_size};
 ghost use Rattle.c_ast.specs.Structs as types;
@@ -70,8 +71,8 @@ fn members_align(t: Target, earlier: &[CStruct], members: &[CMember]) -> u64
     most
 }
 
-#[tactic(auto, unfolding(crate::specs::Layouts::up))]
-fn round(o: u64, a: u64) -> u64
+#[tactic(auto, unfolding(type_trees::specs::Multiples::up))]
+fn up(o: u64, a: u64) -> u64
     requires some { 1 ≤ a }
     requires fits { up o a < 2 ^ 40 }
     ensures { result ≡ up o a }
@@ -116,11 +117,11 @@ fn members_size(t: Target, earlier: &[CStruct], members: &[CMember]) -> u64
 {
     let mut end = 0;
     for m in members {
-        let at = round(end, base_align(t, earlier, &m.base));
+        let at = up(end, base_align(t, earlier, &m.base));
         end = at + member_size(t, earlier, m);
     }
     let most = members_align(t, earlier, members);
-    round(end, most)
+    up(end, most)
 }
 
 fn member_offset(t: Target, earlier: &[CStruct], members: &[CMember], name: &Word) -> u64
@@ -129,7 +130,7 @@ fn member_offset(t: Target, earlier: &[CStruct], members: &[CMember], name: &Wor
 {
     let mut end = 0;
     for m in members {
-        let at = round(end, base_align(t, earlier, &m.base));
+        let at = up(end, base_align(t, earlier, &m.base));
         if m.name == *name {
             return at;
         }

@@ -6,7 +6,7 @@ use iv_words::{Copied, Memory, Seq, Word};
 use std::alloc::Global;
 
 /// A call of a function of the unit or of an `extern`, with its arguments (C99 6.5.2.2).
-#[derive(Debug, Drop, PartialEq, Eq)]
+#[derive(Drop, PartialEq, Eq)]
 pub struct CCall {
     pub name: Word,
     pub args: Seq<CExpr>,
@@ -18,7 +18,7 @@ pub struct CCall {
 /// an initializer; then an assignment, `if` with or without `else`, `for (;;)`, `break`, `return` with or without a
 /// value, a block, and a call whose result is dropped.
 #[cycle(stmt)]
-#[derive(Debug, Drop, PartialEq, Eq)]
+#[derive(Drop, PartialEq, Eq)]
 pub enum CStmt {
     Const(Word, CType, CExpr),
     ConstCall(Word, CType, CCall),

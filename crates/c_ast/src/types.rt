@@ -6,13 +6,13 @@ use std::alloc::Global;
 /// What a C compiler decides about types: widths, byte order, alignments and the types of constants.
 ///
 /// `T32` has 32 bits in `int` and `long`, 64 in `long long`, two's complement, and is little-endian.
-#[derive(Clone, Copy, Debug, Drop, PartialEq, Eq)]
+#[derive(Clone, Copy, Drop, PartialEq, Eq)]
 pub enum Target {
     T32,
 }
 
 /// A type of one value: `bool`, or an exact-width integer of `<stdint.h>` (C99 7.16 and 7.18.1.1).
-#[derive(Clone, Copy, Debug, Drop, PartialEq, Eq)]
+#[derive(Clone, Copy, Drop, PartialEq, Eq)]
 pub enum CScalar {
     Truth,
     Int(IntKind),
@@ -30,21 +30,21 @@ pub enum Arith {
 }
 
 /// The type of a value that is no pointer: as a name or a cast gives it, or as C computes in it.
-#[derive(Clone, Copy, Debug, Drop, PartialEq, Eq)]
+#[derive(Clone, Copy, Drop, PartialEq, Eq)]
 pub enum CKind {
     Scalar(CScalar),
     Arith(Arith),
 }
 
 /// The type of an object: a scalar, or the struct of a tag.
-#[derive(Debug, Drop, PartialEq, Eq)]
+#[derive(Drop, PartialEq, Eq)]
 pub enum CBase {
     Scalar(CScalar),
     Struct(Word),
 }
 
 /// The type of a parameter, a result, a name or a cast. A pointer's flag is `const` on what it points to.
-#[derive(Debug, Drop, PartialEq, Eq)]
+#[derive(Drop, PartialEq, Eq)]
 pub enum CType {
     Void,
     Value(CScalar),

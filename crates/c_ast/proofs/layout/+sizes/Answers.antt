@@ -1,6 +1,7 @@
 use Rattle.std.proofs.Common.{rules, ℕ, ◌≡◌, ◌∙◌, sym, ap, arith, take, []}
-use Rattle.c_ast.specs.Trees.{Struct}
-use Rattle.c_ast.specs.Layouts.{size, up}
+use Rattle.type_trees.specs.Trees.{Struct}
+use Rattle.type_trees.specs.Layouts.{size}
+use Rattle.type_trees.specs.Multiples.{up}
 use Rattle.c_ast.specs.Scalars.{metric_of}
 use Rattle.c_ast.specs.Structs.{row_of, table, tree}
 use Rattle.c_ast.proofs.Structs.{tree_named, size_missing, members_room}
@@ -23,11 +24,11 @@ base_size-returns-in-Some t c =
 pub base_size-returns-in-None : goal.base_size-returns-in-None
 base_size-returns-in-None t c = sym (size_missing (metric_of c.args.t) c.args.structs.now c.args.b.now c.in-Struct.name c.in-Struct.is (sym c.find.ensures.place ∙ c.in-None.is))
 
-pub members_size-round-at-requires-clause-fits : goal.members_size-round-at-requires-clause-fits
-members_size-round-at-requires-clause-fits t c = omega (arith, ap (up c.loop-m.end) c.base_align.ensures.value, members_room (metric_of c.args.t) (table [] c.args.earlier.now) c.args.members.now c.loop-m.m-index c.m-item.result c.loop-m.end 1099511627776 c.loop-m-test.true c.m-item.is c.loop-m.invariant c.requires)
+pub members_size-up-at-requires-clause-fits : goal.members_size-up-at-requires-clause-fits
+members_size-up-at-requires-clause-fits t c = omega (arith, ap (up c.loop-m.end) c.base_align.ensures.value, members_room (metric_of c.args.t) (table [] c.args.earlier.now) c.args.members.now c.loop-m.m-index c.m-item.result c.loop-m.end 1099511627776 c.loop-m-test.true c.m-item.is c.loop-m.invariant c.requires)
 
 pub members_size-member_size-requires : goal.members_size-member_size-requires
 members_size-member_size-requires t c = (search rules, omega (arith, members_room (metric_of c.args.t) (table [] c.args.earlier.now) c.args.members.now c.loop-m.m-index c.m-item.result c.loop-m.end 1099511627776 c.loop-m-test.true c.m-item.is c.loop-m.invariant c.requires))
 
 pub members_size-overflow_add-end : goal.members_size-overflow_add-end
-members_size-overflow_add-end t c = omega (arith, c.round-at.ensures, c.member_size.ensures, ap (up c.loop-m.end) c.base_align.ensures.value, members_room (metric_of c.args.t) (table [] c.args.earlier.now) c.args.members.now c.loop-m.m-index c.m-item.result c.loop-m.end 1099511627776 c.loop-m-test.true c.m-item.is c.loop-m.invariant c.requires)
+members_size-overflow_add-end t c = omega (arith, c.up-at.ensures, c.member_size.ensures, ap (up c.loop-m.end) c.base_align.ensures.value, members_room (metric_of c.args.t) (table [] c.args.earlier.now) c.args.members.now c.loop-m.m-index c.m-item.result c.loop-m.end 1099511627776 c.loop-m-test.true c.m-item.is c.loop-m.invariant c.requires)

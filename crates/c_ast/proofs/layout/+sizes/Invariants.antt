@@ -1,5 +1,5 @@
 use Rattle.std.proofs.Common.{◌≡◌, [], ◌+◌, ◌*◌, length, drop}
-use Rattle.c_ast.specs.Layouts.{end_row}
+use Rattle.type_trees.specs.Layouts.{end_row}
 use Rattle.c_ast.specs.Scalars.{metric_of}
 use Rattle.c_ast.specs.Structs.{row_of, table}
 use Rattle.c_ast.proofs.layout.+sizes.Given as goal

@@ -1,5 +1,5 @@
 use Rattle.std.proofs.Common.{◌≡◌, [], drop}
-use Rattle.c_ast.specs.Layouts.{end_row, offset_row}
+use Rattle.type_trees.specs.Layouts.{end_row, offset_row}
 use Rattle.c_ast.specs.Scalars.{metric_of}
 use Rattle.c_ast.specs.Structs.{row_of, table, index_of}
 use Rattle.c_ast.proofs.layout.member_offset.Given as goal

@@ -1,5 +1,5 @@
 use Rattle.std.proofs.Common.{◌∙◌, sym, ap, arith}
-use Rattle.c_ast.specs.Layouts.{size}
+use Rattle.type_trees.specs.Layouts.{size}
 use Rattle.c_ast.specs.Scalars.{metric_of}
 use Rattle.c_ast.specs.Structs.{offset_named}
 use Rattle.c_ast.proofs.Structs.{named_struct, tree_missing}

@@ -1,17 +1,10 @@
 -- Paths one behind the other.
-use Rattle.std.proofs.Common.{◌≡◌, ℕ, zero, suc, ◌+◌, ◌-◌, ◌%◌, List, [], ◌∷◌, ◌++◌, Some, None, if◌then◌else◌, ◌∙◌, ap, arith}
-use Rattle.std.proofs.Math.Nat.{zero-mod, mod_self}
+use Rattle.std.proofs.Common.{◌≡◌, ℕ, zero, suc, ◌+◌, List, [], ◌∷◌, ◌++◌, Some, None, if◌then◌else◌, ◌∙◌, ap, arith}
 use Rattle.std.proofs.lemmas.Bool.{lt-ltb}
-use Rattle.c_ast.specs.Trees.{Tree, Leaf, Many, Struct, Row, End, Field, part, part_row}
-use Rattle.c_ast.specs.Layouts.{Metric, up, align, size, offset, offset_row}
-use Rattle.c_ast.proofs.Windows.{within}
-
-pub up_none : (a : ℕ) → up 0 a ≡ 0
-unfolding up
-up_none a =
-    let none : 0 % a ≡ 0 = zero-mod a in
-    let whole : (a - 0 % a) % a ≡ 0 = ap (λ x. x % a) (omega arith) ∙ mod_self a in
-    omega (arith, whole)
+use Rattle.type_trees.specs.Trees.{Tree, Leaf, Many, Struct, Row, End, Field, part, part_row}
+use Rattle.type_trees.specs.Multiples.{up}
+use Rattle.type_trees.specs.Layouts.{Metric, align, size, offset, offset_row}
+use Rattle.type_trees.proofs.Windows.{within}
 
 module _ {S N : Type 0} where
   mutual

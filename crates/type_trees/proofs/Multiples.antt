@@ -1,9 +1,19 @@
 -- `up o a` is the least multiple of a that is not below o.
 use Rattle.std.proofs.Common.{◌≡◌, ℕ, ◌+◌, ◌*◌, ◌-◌, ◌/◌, ◌%◌, ◌<◌, ◌≤◌, ◌∙◌, ap, arith, ⊎_elim}
-use Rattle.std.proofs.Math.Nat.{mod_self, mod-eq_of_lt, mod-lt, div-add-mod', mul-le-mul_right, mul-mod_left}
+use Rattle.std.proofs.Math.Nat.{zero-mod, mod_self, mod-eq_of_lt, mod-lt, div-add-mod', mul-le-mul_right, mul-mod_left}
 use Rattle.std.proofs.lemmas.Bool.{cases_lt}
-use Rattle.c_ast.specs.Layouts.{up}
-use Rattle.c_ast.specs.LayoutLaws.{LeastMultiple}
+use Rattle.type_trees.specs.Multiples.{up, LeastMultiple}
+
+pub up_from : (o a : ℕ) → o ≤ up o a
+unfolding up
+up_from o a = omega arith
+
+pub up_none : (a : ℕ) → up 0 a ≡ 0
+unfolding up
+up_none a =
+    let none : 0 % a ≡ 0 = zero-mod a in
+    let whole : (a - 0 % a) % a ≡ 0 = ap (λ x. x % a) (omega arith) ∙ mod_self a in
+    omega (arith, whole)
 
 pub up_least : (o a : ℕ) → 0 < a → LeastMultiple o a (up o a)
 unfolding up

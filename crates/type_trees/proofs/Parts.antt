@@ -1,41 +1,29 @@
 -- A part lies within the whole, and two parts of one type are the same part or apart.
-use Rattle.std.proofs.Common.{◌≡◌, ℕ, zero, suc, ◌+◌, ◌*◌, ◌<◌, ◌≤◌, max, List, [], ◌∷◌, length, Some, refl, sym, ◌∙◌, ap, subst, arith, ◌⊎◌, ⊎_elim, inl, inr}
+use Rattle.std.proofs.Common.{◌≡◌, ℕ, zero, suc, ◌+◌, ◌*◌, ◌<◌, ◌≤◌, List, [], ◌∷◌, length, Some, refl, sym, ◌∙◌, ap, subst, arith, ◌⊎◌, ⊎_elim, inl, inr}
 use Rattle.std.proofs.lemmas.Bool.{cases_lt}
-use Rattle.c_ast.specs.Trees.{Tree, Leaf, Many, Struct, Row, End, Field, part, part_row}
-use Rattle.c_ast.specs.Layouts.{Metric, up, align, size, end_row, offset, offset_row}
-use Rattle.c_ast.proofs.Layouts.{up_from}
-use Rattle.c_ast.proofs.Windows.{within}
-
-abbrev mutual
-  depth : {S N : Type 0} → Tree S N → ℕ
-  depth (Leaf s) = 0
-  depth (Many n a) = suc (depth a)
-  depth (Struct k r) = suc (depth_row r)
-
-  depth_row : {S N : Type 0} → Row S N → ℕ
-  depth_row End = 0
-  depth_row (Field f a r) = max (depth a) (depth_row r)
+use Rattle.type_trees.specs.Trees.{Tree, Leaf, Many, Struct, Row, End, Field, count, count_row, levels, levels_row, part, part_row, first, first_row}
+use Rattle.type_trees.specs.Multiples.{up}
+use Rattle.type_trees.specs.Layouts.{Metric, align, size, end_row, offset, offset_row}
+use Rattle.type_trees.specs.Laws.{Apart}
+use Rattle.type_trees.proofs.Multiples.{up_from}
+use Rattle.type_trees.proofs.Windows.{within}
 
 module _ {S N : Type 0} where
   mutual
-    deeper : (a : Tree S N) (p : List ℕ) (b : Tree S N) → part a p ≡ Some b → depth b + length p ≤ depth a
-    deeper a [] b h = (let e : a ≡ b = cc in omega (arith, ap depth e))
-    deeper (Leaf s) (i ∷ p) b h = absurd (cc)
-    deeper (Many n a) (i ∷ p) b h = omega (arith, deeper a p b (within n i a p b h).rest)
-    deeper (Struct k r) (i ∷ p) b h = omega (arith, deeper_row r i p b h)
+    pub levels_within : (a : Tree S N) (p : List ℕ) (b : Tree S N) → part a p ≡ Some b → levels b + length p ≤ levels a
+    levels_within a [] b h = (let e : a ≡ b = cc in omega (arith, ap levels e))
+    levels_within (Leaf s) (i ∷ p) b h = absurd (cc)
+    levels_within (Many n a) (i ∷ p) b h = omega (arith, levels_within a p b (within n i a p b h).rest)
+    levels_within (Struct k r) (i ∷ p) b h = omega (arith, levels_row_within r i p b h)
 
-    deeper_row : (r : Row S N) (i : ℕ) (p : List ℕ) (b : Tree S N) → part_row r i p ≡ Some b → depth b + length p ≤ depth_row r
-    deeper_row End i p b h = absurd (cc)
-    deeper_row (Field f a r) zero p b h = omega (arith, deeper a p b h)
-    deeper_row (Field f a r) (suc i) p b h = omega (arith, deeper_row r i p b h)
+    levels_row_within : (r : Row S N) (i : ℕ) (p : List ℕ) (b : Tree S N) → part_row r i p ≡ Some b → levels b + length p ≤ levels_row r
+    levels_row_within End i p b h = absurd (cc)
+    levels_row_within (Field f a r) zero p b h = omega (arith, levels_within a p b h)
+    levels_row_within (Field f a r) (suc i) p b h = omega (arith, levels_row_within r i p b h)
 
   -- no part of a tree but the whole is the tree
   not_itself : (a : Tree S N) (i : ℕ) (p : List ℕ) → part a (i ∷ p) ≡ Some a → ⊥
-  not_itself a i p h = omega (arith, deeper a (i ∷ p) a h)
-
--- one before the other
-abbrev pub Apart : ℕ → ℕ → ℕ → Type 0
-Apart x y w = (x + w ≤ y) ⊎ (y + w ≤ x)
+  not_itself a i p h = omega (arith, levels_within a (i ∷ p) a h)
 
 abbrev pub Places : List ℕ → List ℕ → ℕ → ℕ → ℕ → Type 0
 Places p q x y w = (p ≡ q) ⊎ Apart x y w
@@ -110,3 +98,18 @@ module _ {S N : Type 0} (m : Metric S) where
     apart_row (Field f a r) zero (suc j) p q b o h k = inr (inl (omega (arith, inside a p b h, (inside_row r j q b (up o (align m a) + size m a) k).above)))
     apart_row (Field f a r) (suc i) zero p q b o h k = inr (inr (omega (arith, inside a q b k, (inside_row r i p b (up o (align m a) + size m a) h).above)))
     apart_row (Field f a r) (suc i) (suc j) p q b o h k = further i j p q (offset_row m r i p (up o (align m a) + size m a)) (offset_row m r j q (up o (align m a) + size m a)) (size m b) (apart_row r i j p q b (up o (align m a) + size m a) h k)
+
+-- ---- the scalars of a part lie within those of the whole
+
+module _ {S N : Type 0} where
+  mutual
+    pub count_within : (a : Tree S N) (p : List ℕ) (b : Tree S N) → part a p ≡ Some b → first a p + count b ≤ count a
+    count_within a [] b h = (let e : a ≡ b = cc in omega (arith, ap count e))
+    count_within (Leaf s) (i ∷ p) b h = absurd (cc)
+    count_within (Many n a) (i ∷ p) b h = let w = within n i a p b h in omega (arith, times i n (count a) (first a p + count b) w.low (count_within a p b w.rest))
+    count_within (Struct k r) (i ∷ p) b h = count_row_within r i p b h
+
+    count_row_within : (r : Row S N) (i : ℕ) (p : List ℕ) (b : Tree S N) → part_row r i p ≡ Some b → first_row r i p + count b ≤ count_row r
+    count_row_within End i p b h = absurd (cc)
+    count_row_within (Field f a r) zero p b h = omega (arith, count_within a p b h)
+    count_row_within (Field f a r) (suc i) p b h = omega (arith, count_row_within r i p b h)

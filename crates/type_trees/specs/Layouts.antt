@@ -1,17 +1,14 @@
 -- Where the scalars of a type stand: members in order at the least offsets that their alignments allow, the alignment of a
--- struct that of its greatest member, its size a multiple of it, and the elements of an array without a gap (C99 6.2.5,
+-- struct the greatest of its members', its size a multiple of it, and the elements of an array without a gap (C99 6.2.5,
 -- 6.2.6.1 and 6.7.2.1 leave this to the implementation).
-use Rattle.std.specs.Prelude.{◌≡◌, ℕ, zero, suc, ◌+◌, ◌*◌, ◌-◌, ◌%◌, ◌≤◌, List, [], ◌∷◌, ◌++◌, max, length}
-use Rattle.c_ast.specs.Trees.{Tree, Leaf, Many, Struct, Row, End, Field}
+use Rattle.std.specs.Prelude.{ℕ, zero, suc, ◌+◌, ◌*◌, ◌≤◌, List, [], ◌∷◌, ◌++◌, max}
+use Rattle.type_trees.specs.Multiples.{up}
+use Rattle.type_trees.specs.Trees.{Tree, Leaf, Many, Struct, Row, End, Field}
 
 -- the bytes of a scalar, and its alignment
 pub record Metric (S : Type 0) : Type 0 where
   pub width : S → ℕ
   pub align : S → ℕ
-
--- the least multiple of a that is not below o
-unfoldable pub up : (o a : ℕ) → ℕ
-up o a = o + (a - o % a) % a
 
 module _ {S N : Type 0} (m : Metric S) where
   abbrev mutual
@@ -70,10 +67,3 @@ module _ {S N : Type 0} (m : Metric S) where
 abbrev pub Ascends : {S : Type 0} → Metric S → ℕ → List (ℕ × S) → ℕ → Type 0
 Ascends m lo [] hi = lo ≤ hi
 Ascends m lo (x ∷ xs) hi = (lo ≤ x.0) × Ascends m (x.0 + m.width x.1) xs hi
-
--- `part` stands in `whole` behind n others
-pub record Window {A : Type 0} (whole part : List A) (n : ℕ) : Type 0 where
-  pub before : List A
-  pub after : List A
-  pub is : whole ≡ before ++ (part ++ after)
-  pub number : length before ≡ n

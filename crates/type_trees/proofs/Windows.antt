@@ -1,9 +1,11 @@
 -- The scalars of a part of a tree stand in a row among those of the tree.
 use Rattle.std.proofs.Common.{◌≡◌, ℕ, zero, suc, ◌+◌, ◌*◌, ◌<◌, List, [], ◌∷◌, ◌++◌, length, Some, None, Bool, true, false, if◌then◌else◌, nat_lt, refl, sym, ◌∙◌, ap, subst, arith, length-append, append_assoc, append-nil}
 use Rattle.std.proofs.lemmas.Bool.{ltb-true}
-use Rattle.c_ast.specs.Trees.{Tree, Leaf, Many, Struct, Row, End, Field, count, first, first_row, part, part_row}
-use Rattle.c_ast.specs.Layouts.{Metric, up, align, size, rows, lay, lay_row, offset, offset_row, Window}
-use Rattle.c_ast.proofs.Layouts.{length_lay}
+use Rattle.type_trees.specs.Trees.{Tree, Leaf, Many, Struct, Row, End, Field, count, first, first_row, part, part_row}
+use Rattle.type_trees.specs.Multiples.{up}
+use Rattle.type_trees.specs.Layouts.{Metric, align, size, rows, lay, lay_row, offset, offset_row}
+use Rattle.type_trees.specs.Windows.{Window}
+use Rattle.type_trees.proofs.Layouts.{length_lay}
 
 pub window_whole : {A : Type 0} (xs : List A) → Window xs xs 0
 window_whole xs = record { before = []; after = []; is = sym (append-nil xs); number = refl }

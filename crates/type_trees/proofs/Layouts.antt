@@ -1,11 +1,9 @@
--- The scalars of a layout stand in order, and those of a part of a tree stand in a row.
+-- The scalars of a layout stand in order, as many as the type has, and alignments are at least 1 where those of scalars are.
 use Rattle.std.proofs.Common.{◌≡◌, ℕ, zero, suc, ◌+◌, ◌*◌, ◌≤◌, List, [], ◌∷◌, ◌++◌, length, refl, arith, length-append}
-use Rattle.c_ast.specs.Trees.{Tree, Leaf, Many, Struct, Row, End, Field, count, count_row}
-use Rattle.c_ast.specs.Layouts.{Metric, up, align, size, end_row, rows, lay, lay_row, Ascends}
-
-pub up_from : (o a : ℕ) → o ≤ up o a
-unfolding up
-up_from o a = omega arith
+use Rattle.type_trees.specs.Multiples.{up}
+use Rattle.type_trees.specs.Trees.{Tree, Leaf, Many, Struct, Row, End, Field, count, count_row}
+use Rattle.type_trees.specs.Layouts.{Metric, align, align_row, size, end_row, rows, lay, lay_row, Ascends}
+use Rattle.type_trees.proofs.Multiples.{up_from}
 
 -- ---- order
 
@@ -65,3 +63,15 @@ module _ {S N : Type 0} (m : Metric S) where
     length_lay_row (Field f a r) b o =
         let at : ℕ = up o (align m a) in
         omega (arith, length-append (lay m a (b + at)) (lay_row m r b (at + size m a)), length_lay a (b + at), length_lay_row r b (at + size m a))
+
+-- ---- alignment
+
+module _ {S N : Type 0} (m : Metric S) where
+  pub align_row_some : (r : Row S N) → 1 ≤ align_row m r
+  align_row_some End = omega arith
+  align_row_some (Field f a r) = omega (arith, align_row_some r)
+
+  pub align_some : ((s : S) → 1 ≤ m.align s) → (a : Tree S N) → 1 ≤ align m a
+  align_some h (Leaf s) = h s
+  align_some h (Many n a) = align_some h a
+  align_some h (Struct k r) = align_row_some r

@@ -1,0 +1,7 @@
+pub mod Multiples
+pub mod Layouts
+pub mod Windows
+pub mod Scalars
+pub mod Parts
+pub mod Paths
+pub mod Values

@@ -13,3 +13,5 @@ pub mod Structs
 pub mod Places
 pub mod LayoutLaws
 pub mod LayoutExamples
+pub mod StaticTypes
+pub mod StaticTypesExamples

@@ -4,6 +4,7 @@ ghost use Rattle.c_ast.specs.TargetExamples.{PromotionExamples, CommonExamples, 
 ghost use Rattle.c_ast.specs.Examples.{Exported};
 ghost use Rattle.c_ast.specs.LayoutLaws.{ScalarsInOrder, TypesHaveAlignments};
 ghost use Rattle.c_ast.specs.LayoutExamples.{PaddedExamples, NestedExamples, AlignedExamples, NamedExamples};
+ghost use Rattle.c_ast.specs.StaticTypesExamples.{NumberTypes, NoTypes, PlaceTypes, NoPlaces, AssignedPlaces};
 
 /// A conversion keeps a number that the type holds, and gives numbers that it holds.
 pub fn conversion_laws()
@@ -51,4 +52,13 @@ pub fn layout_examples()
     ensures nested { NestedExamples }
     ensures aligned { AlignedExamples }
     ensures named { NamedExamples }
+{}
+
+/// Which types expressions and places have, which have none, and what may be assigned to.
+pub fn static_type_examples()
+    ensures numbers { NumberTypes }
+    ensures none { NoTypes }
+    ensures places { PlaceTypes }
+    ensures no_places { NoPlaces }
+    ensures assigned { AssignedPlaces }
 {}

@@ -1,6 +1,7 @@
--- The values of expressions have the types of their expressions, and their numbers are numbers of these types.
-use Rattle.std.proofs.Common.{◌≡◌, ℕ, ℤ, pos, Bool, true, false, IsTrue, List, [], ◌∷◌, Option, Some, None, Result, Ok, Err, IfOk, refl, sym, ap, ◌∙◌}
-use Rattle.std.specs.Prelude.{All, if◌then◌else◌}
+-- The values of expressions have the types of their expressions, and their numbers are numbers of these types; and typed expressions of
+-- numbers are not stuck.
+use Rattle.std.proofs.Common.{◌≡◌, ℕ, ℤ, pos, Bool, true, false, IsTrue, List, [], ◌∷◌, Option, Some, None, Result, Ok, Err, IfOk, refl, sym, ap, subst, ◌∙◌}
+use Rattle.std.specs.Prelude.{⊤, All, map, ◌++◌, if◌then◌else◌}
 use Rattle.std.specs.Option.{option_map, option_and_then}
 use Rattle.std.proofs.lemmas.List.Elements.{All-head, All-tail}
 use Rattle.iv_words.specs.Words.{same_word}
@@ -12,22 +13,22 @@ use Rattle.c_ast.specs.declared.CScalar.{CScalar}
 use Rattle.c_ast.specs.declared.CScalar.TheVariants.{Truth, Int as Exact}
 use Rattle.c_ast.specs.declared.CKind.{CKind}
 use Rattle.c_ast.specs.declared.CKind.TheVariants.{Scalar, Arith as Computed}
+use Rattle.c_ast.specs.declared.CStruct.{CStruct}
 use Rattle.c_ast.specs.declared.CType.{CType}
 use Rattle.c_ast.specs.declared.CType.TheVariants.{Void, Value, Pointer}
-use Rattle.c_ast.specs.declared.CUnary.{CUnary}
-use Rattle.c_ast.specs.declared.CBinary.{CBinary}
 use Rattle.c_ast.specs.Syntax.{Name, Expr, Number, Read, Address, Unary, Binary, Cast, Cond, Var, At, Member, Element}
-use Rattle.c_ast.specs.Targets.{TargetTable, table_of, arith_bits, arith_signed}
+use Rattle.c_ast.specs.StaticTypes.{ValueType, Arithmetic, PointerTo, Entity, ConstName, declared, of_unary, of_binary, of_choice, of_cast, of_entity, of_read, of_both}
+use Rattle.c_ast.specs.Targets.{TargetTable, table_of, arith_bits, arith_signed, common_type}
 use Rattle.c_ast.specs.Conversions.{convert_in, can_hold, candidates, first_of_types, constant_type_in}
-use Rattle.c_ast.specs.TargetLaws.{SoundTable}
 use Rattle.c_ast.proofs.Conversions.{converted_held}
 use Rattle.c_ast.proofs.Promotions.{targets_are_sound}
-use Rattle.c_meaning.specs.Values.{CValue, Num, kind_of, is_true, typed, as_kind, as_assigned, of_type}
+use Rattle.c_meaning.specs.Values.{Trouble, Undefined, Stuck, CValue, Num, Ptr, held_type, is_true, on_ok, typed, as_kind, as_assigned, of_type}
 use Rattle.c_meaning.specs.Operators.{unary, binary}
 use Rattle.c_meaning.specs.State.{Program, CState}
-use Rattle.c_meaning.specs.Expressions.{unary_type, binary_type, cast_type, of_both, type_of, named, scope_types, held, as_common, eval}
-use Rattle.c_meaning.specs.ExpressionLaws.{IsTyped, NamesAreTyped, HasItsType, ValuesHaveTheirTypes}
-use Rattle.c_meaning.proofs.Operands.{on_ok_if, Is, Joined, unary_is_typed, binary_is_typed}
+use Rattle.c_meaning.specs.Scopes.{named, value_entity, local_entity, file_entity}
+use Rattle.c_meaning.specs.Expressions.{static_type, held, as_common, eval}
+use Rattle.c_meaning.specs.ExpressionLaws.{IsTyped, NamesAreTyped, HasItsType, ValuesHaveTheirTypes, IsOfNumbers, HasNoObjects, TypedNumbersAreNotStuck}
+use Rattle.c_meaning.proofs.Operands.{Is, Fine, Comes, some_is, fine_comes, on_ok_comes, unary_comes, binary_comes}
 
 -- ---- conversions
 
@@ -41,29 +42,18 @@ converted_is_held t (Scalar Truth) v w e = bool_in_range t _ w e
 converted_is_held t (Scalar (Exact kind)) v w e = converted_held (width kind) (is_signed kind) v w e
 converted_is_held t (Computed a) v w e = converted_held (arith_bits t a) (arith_signed a) v w e
 
-typed_is : (t : TargetTable) (to : CKind) (v : ℤ) (r : Option ℤ) → convert_in t to v ≡ r → IfOk (typed to r) (Is t to)
-typed_is t to v None e = tt
-typed_is t to v (Some w) e = record { typed = converted_is_held t to v w e; of_kind = refl }
+typed_fine : (t : TargetTable) (to : CKind) (v : ℤ) (r : Option ℤ) → convert_in t to v ≡ r → Fine t to (typed to r)
+typed_fine t to v None e = tt
+typed_fine t to v (Some w) e = record { typed = converted_is_held t to v w e; of_kind = refl }
 
--- ---- the types that are there
-
-some_of : {A : Type 0} (a b : A) → Some a ≡ Some b → a ≡ b
-some_of a b e = cc
-
--- a value of the type has the type that is said, where that is this one
-is_said : (t : TargetTable) (kind : CKind) (said : Option CKind) (r : Result CValue Reason) → ((other : CKind) → said ≡ Some other → kind ≡ other) → IfOk r (Is t kind) → IfOk r (HasItsType t said)
-is_said t kind said (Ok v) e h = record { typed = h.typed; agrees = λ other is. h.of_kind ∙ e other is }
-is_said t kind said (Err why) e h = tt
-
-mapped : (f : CKind → CKind) (v : CValue) (said : Option CKind) → ((kind : CKind) → said ≡ Some kind → kind_of v ≡ kind) → (other : CKind) → option_map f said ≡ Some other → f (kind_of v) ≡ other
-mapped f v None agrees other e = cc
-mapped f v (Some kind) agrees other e = ap f (agrees kind refl) ∙ some_of (f kind) other e
+as_kind_fine : (t : TargetTable) (to from : CKind) (v : ℤ) → Fine t to (as_kind t to (Num from v))
+as_kind_fine t to from v = typed_fine t to v (convert_in t to v) refl
 
 -- ---- constants
 
 first_by : (t : TargetTable) (b : Arith) (rest : Option Arith) (v : ℤ) (a : Arith) → (rest ≡ Some a → IsTrue (can_hold t (Computed a) v)) → (test : Bool) → can_hold t (Computed b) v ≡ test
     → (if test then Some b else rest) ≡ Some a → IsTrue (can_hold t (Computed a) v)
-first_by t b rest v a later true holds e = ap (λ c. can_hold t (Computed c) v) (sym (some_of b a e)) ∙ holds
+first_by t b rest v a later true holds e = ap (λ c. can_hold t (Computed c) v) (sym (some_is e)) ∙ holds
 first_by t b rest v a later false holds e = later e
 
 -- the type of a constant has its number
@@ -71,87 +61,149 @@ pub first_holds : (t : TargetTable) (types : List Arith) (v : ℤ) (a : Arith) �
 first_holds t [] v a e = cc
 first_holds t (b ∷ types) v a e = first_by t b (first_of_types t types v) v a (first_holds t types v a) (can_hold t (Computed b) v) refl e
 
-of_type_has : (t : TargetTable) (found : Option Arith) (v : ℕ) → ((a : Arith) → found ≡ Some a → IsTrue (can_hold t (Computed a) (pos v))) → IfOk (of_type found v) (HasItsType t (option_map Computed found))
-of_type_has t None v h = tt
-of_type_has t (Some a) v h = record { typed = h a refl; agrees = λ kind e. some_of (Computed a) kind e }
+of_type_comes : (t : TargetTable) (excuse : Type 0) (found : Option Arith) (v : ℕ) → ((a : Arith) → found ≡ Some a → IsTrue (can_hold t (Computed a) (pos v)))
+    → Comes t excuse (option_map (λ a. Arithmetic (Computed a)) found) (of_type found v)
+of_type_comes t excuse None v h = λ type is. cc
+of_type_comes t excuse (Some a) v h = record { typed = h a refl; agrees = λ type is. some_is is }
 
 -- ---- names
 
-abbrev NameHas : TargetTable → Option CValue → Type 0
-NameHas t found = IfOk (held found) (HasItsType t (option_map kind_of found))
+abbrev name_type : List CStruct → Option Entity → Option ValueType
+name_type structs found = option_and_then of_read (option_map (of_entity structs) found)
 
-name_by : (t : TargetTable) (v : CValue) (rest : Option CValue) → IsTyped t v → NameHas t rest → (test : Bool) → NameHas t (if test then Some v else rest)
-name_by t v rest h k true = record { typed = h; agrees = λ kind e. some_of (kind_of v) kind e }
-name_by t v rest h k false = k
+module _ (t : TargetTable) (excuse : Type 0) (structs : List CStruct) (rest : List (Name × Entity)) (others : (x : Name) (e : Entity) → declared rest x ≡ Some e → excuse) where
+  no_value : (x : Name) (found : Option Entity) → declared rest x ≡ found → Comes t excuse (name_type structs found) (Err Stuck)
+  no_value x None e = λ type is. cc
+  no_value x (Some entity) e = λ type is. others x entity e
 
-named_has : (t : TargetTable) (names : List (Name × CValue)) → All (λ n. IsTyped t n.1) names → (x : Name) → NameHas t (named names x)
-named_has t [] h x = tt
-named_has t (n ∷ names) h x = name_by t n.1 (named names x) (All-head (λ m. IsTyped t m.1) n names h) (named_has t names (All-tail (λ m. IsTyped t m.1) n names h) x) (same_word n.0 x)
+  name_by : (v : CValue) (found : Option CValue) (entity : Option Entity) → IsTyped t v → Comes t excuse (name_type structs entity) (held found) → (test : Bool)
+      → Comes t excuse (name_type structs (if test then Some (ConstName (held_type v)) else entity)) (held (if test then Some v else found))
+  name_by v found entity h k true = record { typed = h; agrees = λ type is. some_is is }
+  name_by v found entity h k false = k
 
--- ---- operators
-
-unary_has : (t : TargetTable) → SoundTable t → (op : CUnary) (said : Option CKind) (v : CValue) → HasItsType t said v → IfOk (unary t op v) (HasItsType t (option_map (unary_type t op) said))
-unary_has t sound op said v has = is_said t (unary_type t op (kind_of v)) (option_map (unary_type t op) said) (unary t op v) (mapped (unary_type t op) v said has.agrees) (unary_is_typed t sound op v has.typed)
-
-both_said : (t : TargetTable) (op : CBinary) (a w : CValue) (left right : Option CKind) → ((kind : CKind) → left ≡ Some kind → kind_of a ≡ kind) → ((l : CKind) → right ≡ Some l → kind_of w ≡ binary_type t op (kind_of a) l)
-    → (other : CKind) → of_both (binary_type t op) left right ≡ Some other → kind_of w ≡ other
-both_said t op a w None right agrees joined other e = cc
-both_said t op a w (Some k) None agrees joined other e = cc
-both_said t op a w (Some k) (Some l) agrees joined other e = joined l refl ∙ ap (λ kind. binary_type t op kind l) (agrees k refl) ∙ some_of (binary_type t op k l) other e
-
-joined_has : (t : TargetTable) (op : CBinary) (a : CValue) (left right : Option CKind) (r : Result CValue Reason) → HasItsType t left a → IfOk r (Joined t op a right) → IfOk r (HasItsType t (of_both (binary_type t op) left right))
-joined_has t op a left right (Ok w) has j = record { typed = j.0; agrees = both_said t op a w left right has.agrees j.1 }
-joined_has t op a left right (Err why) has j = tt
+  name_comes : (names : List (Name × CValue)) → All (λ n. IsTyped t n.1) names → (x : Name) → Comes t excuse (name_type structs (declared (map value_entity names ++ rest) x)) (held (named names x))
+  name_comes [] h x = no_value x (declared rest x) refl
+  name_comes (n ∷ names) h x =
+      name_by n.1 (named names x) (declared (map value_entity names ++ rest) x) (All-head (λ m. IsTyped t m.1) n names h) (name_comes names (All-tail (λ m. IsTyped t m.1) n names h) x) (same_word n.0 x)
 
 -- ---- casts and arms
 
-cast_said : (s : CScalar) (said : Option CKind) (other : CKind) → option_and_then (λ k. cast_type (Value s)) said ≡ Some other → Scalar s ≡ other
-cast_said s None other e = cc
-cast_said s (Some k) other e = some_of (Scalar s) other e
+cast_of : (t : Target) (excuse : Type 0) (s : CScalar) (v : CValue) → Comes (table_of t) excuse (of_cast (Value s) (held_type v)) (as_assigned t (Value s) v)
+cast_of t excuse s (Num k v) = fine_comes (table_of t) (targets_are_sound t) excuse (Scalar s) (of_cast (Value s) (Arithmetic k)) (as_assigned t (Value s) (Num k v)) (λ type is. some_is is) (as_kind_fine (table_of t) (Scalar s) k v)
+cast_of t excuse s (Ptr constant base to) = λ type is. cc
 
-cast_has : (t : Target) (to : CType) (said : Option CKind) (v : CValue) → IfOk (as_assigned t to v) (HasItsType (table_of t) (option_and_then (λ k. cast_type to) said))
-cast_has t Void said v = tt
-cast_has t (Value s) said (Num k v) =
-    is_said (table_of t) (Scalar s) (option_and_then (λ k. cast_type (Value s)) said) (as_kind (table_of t) (Scalar s) (Num k v)) (cast_said s said) (typed_is (table_of t) (Scalar s) v (convert_in (table_of t) (Scalar s) v) refl)
-cast_has t (Pointer constant base) said v = tt
+-- a value of what is said of it: what holds of the value's own type holds of what is said
+of_said : (t : TargetTable) (excuse : Type 0) (f : ValueType → Option ValueType) (said : Option ValueType) (v : CValue) (r : Result CValue Trouble) → HasItsType t said v → (said ≡ None → Comes t excuse None r) → Comes t excuse (f (held_type v)) r
+    → Comes t excuse (option_and_then f said) r
+of_said t excuse f None v r has none some = none refl
+of_said t excuse f (Some u) v r has none some = subst (λ w. Comes t excuse (f w) r) (has.agrees u refl) some
 
-arm_in_kind : (t : TargetTable) (kind : CKind) (v : CValue) → IfOk (as_kind t kind v) (HasItsType t (Some kind))
-arm_in_kind t kind (Num k v) = is_said t kind (Some kind) (as_kind t kind (Num k v)) (λ other e. some_of kind other e) (typed_is t kind v (convert_in t kind v) refl)
+said_less : (t : TargetTable) (excuse : Type 0) (said : Option ValueType) (r : Result CValue Trouble) → Comes t excuse said r → Comes t excuse None r
+said_less t excuse said (Ok v) h = record { typed = h.typed; agrees = λ type is. cc }
+said_less t excuse said (Err (Undefined reason)) h = tt
+said_less t excuse said (Err Stuck) h = λ type is. cc
 
-arm_has : (t : TargetTable) (said : Option CKind) (arm : Result CValue Reason) → IfOk (as_common t said arm) (HasItsType t said)
-arm_has t None arm = tt
-arm_has t (Some kind) (Ok v) = arm_in_kind t kind v
-arm_has t (Some kind) (Err why) = tt
+cast_comes : (t : Target) (excuse : Type 0) (s : CScalar) (said : Option ValueType) (v : CValue) → HasItsType (table_of t) said v → Comes (table_of t) excuse (option_and_then (of_cast (Value s)) said) (as_assigned t (Value s) v)
+cast_comes t excuse s said v has =
+    let of_value = cast_of t excuse s v in
+    of_said (table_of t) excuse (of_cast (Value s)) said v (as_assigned t (Value s) v) has (λ none. said_less (table_of t) excuse (of_cast (Value s) (held_type v)) (as_assigned t (Value s) v) of_value) of_value
+
+module _ (t : Target) (excuse : Type 0) where
+  kind_comes : (kind k : CKind) (v : CValue) → HasItsType (table_of t) (Some (Arithmetic k)) v → Comes (table_of t) excuse (Some (Arithmetic kind)) (as_kind (table_of t) kind v)
+  kind_comes kind k (Num from v) has = fine_comes (table_of t) (targets_are_sound t) excuse kind (Some (Arithmetic kind)) (as_kind (table_of t) kind (Num from v)) (λ type is. some_is is) (as_kind_fine (table_of t) kind from v)
+  kind_comes kind k (Ptr constant base to) has = let no : ⊥ = (let e : PointerTo constant base ≡ Arithmetic k = has.agrees (Arithmetic k) refl in cc) in absurd no
+
+  arm_comes : (kind k : CKind) (arm : Result CValue Trouble) → Comes (table_of t) excuse (Some (Arithmetic k)) arm → Comes (table_of t) excuse (Some (Arithmetic kind)) (on_ok arm (as_kind (table_of t) kind))
+  arm_comes kind k arm g = on_ok_comes (table_of t) (targets_are_sound t) excuse (Some (Arithmetic k)) (Some (Arithmetic kind)) arm (as_kind (table_of t) kind) (λ none. cc) g (kind_comes kind k)
+
+  either_arm : (kind k l : CKind) (test : Bool) (x y : Result CValue Trouble) → Comes (table_of t) excuse (Some (Arithmetic k)) x → Comes (table_of t) excuse (Some (Arithmetic l)) y
+      → Comes (table_of t) excuse (Some (Arithmetic kind)) (on_ok (if test then x else y) (as_kind (table_of t) kind))
+  either_arm kind k l true x y g h = arm_comes kind k x g
+  either_arm kind k l false x y g h = arm_comes kind l y h
+
+  -- the type of the whole, from those of its parts
+  abbrev whole : (c a b : Option ValueType) → Option ValueType
+  whole c a b = option_and_then (λ test. of_both (of_choice (table_of t) test) a b) c
+
+  choice_comes : (c a b : Option ValueType) (test : Bool) (x y : Result CValue Trouble) → Comes (table_of t) excuse a x → Comes (table_of t) excuse b y → Comes (table_of t) excuse (whole c a b) (as_common (table_of t) (whole c a b) (if test then x else y))
+  choice_comes None a b test x y g h = λ type is. cc
+  choice_comes (Some u) None b test x y g h = λ type is. cc
+  choice_comes (Some u) (Some v) None test x y g h = λ type is. cc
+  choice_comes (Some (PointerTo constant base)) (Some v) (Some w) test x y g h = λ type is. cc
+  choice_comes (Some (Arithmetic m)) (Some (PointerTo constant base)) (Some w) test x y g h = λ type is. cc
+  choice_comes (Some (Arithmetic m)) (Some (Arithmetic k)) (Some (PointerTo constant base)) test x y g h = λ type is. cc
+  choice_comes (Some (Arithmetic m)) (Some (Arithmetic k)) (Some (Arithmetic l)) test x y g h = either_arm (Computed (common_type (table_of t) k l)) k l test x y g h
 
 -- ---- all expressions
 
-module _ (p : Program) (s : CState) (h : NamesAreTyped (table_of p.target) s) where
+stuck_after : (t : TargetTable) (excuse : Type 0) (said : Option ValueType) (r : Result CValue Trouble) (next : CValue → Result CValue Trouble) → ((v : CValue) → next v ≡ Err Stuck) → excuse → Comes t excuse said (on_ok r next)
+stuck_after t excuse said (Ok v) next f o = subst (Comes t excuse said) (sym (f v)) (λ type is. o)
+stuck_after t excuse said (Err (Undefined reason)) next f o = tt
+stuck_after t excuse said (Err Stuck) next f o = λ type is. o
+
+module _ (p : Program) (s : CState) (h : NamesAreTyped (table_of p.target) s) (excuse : Type 0)
+    (others : (x : Name) (e : Entity) → declared (map local_entity s.frame.objects ++ map file_entity p.unit.objects) x ≡ Some e → excuse) where
   abbrev t : TargetTable
   t = table_of p.target
 
-  abbrev said : Expr → Option CKind
-  said e = type_of t (scope_types s) e
+  abbrev said : Expr → Option ValueType
+  said e = static_type p s e
 
-  abbrev Has : Expr → Type 0
-  Has e = IfOk (eval p e s) (HasItsType t (said e))
+  value_comes : (e : Expr) → IsOfNumbers excuse e → Comes t excuse (said e) (eval p e s)
+  value_comes (Number v suffix) form = of_type_comes t excuse (constant_type_in t suffix v) v (first_holds t (candidates suffix) (pos v))
+  value_comes (Read (Var x)) form = name_comes t excuse p.unit.structs (map local_entity s.frame.objects ++ map file_entity p.unit.objects) others s.frame.values h x
+  value_comes (Read (At e)) form = λ type is. form
+  value_comes (Read (Member place m)) form = λ type is. form
+  value_comes (Read (Element place e)) form = λ type is. form
+  value_comes (Address place) form = λ type is. form
+  value_comes (Unary op e) form =
+      on_ok_comes t (targets_are_sound p.target) excuse (said e) (said (Unary op e)) (eval p e s) (unary t op) (λ none. ap (option_and_then (of_unary t op)) none) (value_comes e form)
+      (unary_comes t (targets_are_sound p.target) excuse op (said e))
+  value_comes (Binary op a b) form =
+      on_ok_comes t (targets_are_sound p.target) excuse (said a) (said (Binary op a b)) (eval p a s) (λ v. binary t op v (eval p b s)) (λ none. ap (λ u. of_both (of_binary t op) u (said b)) none) (value_comes a form.0)
+      (λ v has. binary_comes t (targets_are_sound p.target) excuse op (said a) (said b) v has (eval p b s) (value_comes b form.1))
+  value_comes (Cast Void e) form = stuck_after t excuse (said (Cast Void e)) (eval p e s) (as_assigned p.target Void) (λ v. refl) form
+  value_comes (Cast (Pointer constant base) e) form = stuck_after t excuse (said (Cast (Pointer constant base) e)) (eval p e s) (as_assigned p.target (Pointer constant base)) (λ v. refl) form
+  value_comes (Cast (Value to) e) form =
+      on_ok_comes t (targets_are_sound p.target) excuse (said e) (said (Cast (Value to) e)) (eval p e s) (as_assigned p.target (Value to)) (λ none. ap (option_and_then (of_cast (Value to))) none) (value_comes e form)
+      (cast_comes p.target excuse to (said e))
+  value_comes (Cond c a b) form =
+      on_ok_comes t (targets_are_sound p.target) excuse (said c) (said (Cond c a b)) (eval p c s) (λ v. as_common t (said (Cond c a b)) (if is_true v then eval p a s else eval p b s)) (λ none. ap (λ u. whole p.target excuse u (said a) (said b)) none) (value_comes c form.0)
+      (λ v has. choice_comes p.target excuse (said c) (said a) (said b) (is_true v) (eval p a s) (eval p b s) (value_comes a form.1) (value_comes b form.2))
 
-  value_has : (e : Expr) → Has e
-  value_has (Number v suffix) = of_type_has t (constant_type_in t suffix v) v (first_holds t (candidates suffix) (pos v))
-  value_has (Read (Var x)) = named_has t s.names h x
-  value_has (Read (At e)) = tt
-  value_has (Read (Member place m)) = tt
-  value_has (Read (Element place e)) = tt
-  value_has (Address place) = tt
-  value_has (Unary op e) =
-      on_ok_if (HasItsType t (said e)) (HasItsType t (said (Unary op e))) (eval p e s) (unary t op) (value_has e) (unary_has t (targets_are_sound p.target) op (said e))
-  value_has (Binary op a b) =
-      on_ok_if (HasItsType t (said a)) (HasItsType t (said (Binary op a b))) (eval p a s) (λ v. binary t op v (eval p b s)) (value_has a)
-      (λ v has. joined_has t op v (said a) (said b) (binary t op v (eval p b s)) has (binary_is_typed t (targets_are_sound p.target) v (said b) op has.typed (eval p b s) (value_has b)))
-  value_has (Cast to e) =
-      on_ok_if (HasItsType t (said e)) (HasItsType t (said (Cast to e))) (eval p e s) (as_assigned p.target to) (value_has e) (λ v has. cast_has p.target to (said e) v)
-  value_has (Cond c a b) =
-      on_ok_if (HasItsType t (said c)) (HasItsType t (said (Cond c a b))) (eval p c s) (λ v. as_common t (said (Cond c a b)) (if is_true v then eval p a s else eval p b s)) (value_has c)
-      (λ v has. arm_has t (said (Cond c a b)) (if is_true v then eval p a s else eval p b s))
+-- ---- the laws
+
+-- with `⊤` for other forms nothing is asked
+any_form : (e : Expr) → IsOfNumbers ⊤ e
+any_form (Number v suffix) = tt
+any_form (Read (Var x)) = tt
+any_form (Read (At e)) = tt
+any_form (Read (Member place m)) = tt
+any_form (Read (Element place e)) = tt
+any_form (Address place) = tt
+any_form (Unary op e) = any_form e
+any_form (Binary op a b) = (any_form a, any_form b)
+any_form (Cast Void e) = tt
+any_form (Cast (Pointer constant base) e) = tt
+any_form (Cast (Value to) e) = any_form e
+any_form (Cond c a b) = (any_form c, any_form a, any_form b)
+
+comes_if : (t : TargetTable) (excuse : Type 0) (said : Option ValueType) (r : Result CValue Trouble) → Comes t excuse said r → IfOk r (HasItsType t said)
+comes_if t excuse said (Ok v) h = h
+comes_if t excuse said (Err why) h = tt
 
 pub values_have_their_types : ValuesHaveTheirTypes
-values_have_their_types p e s h = value_has p s h e
+values_have_their_types p e s h = comes_if (table_of p.target) ⊤ (static_type p s e) (eval p e s) (value_comes p s h ⊤ (λ x entity is. tt) e (any_form e))
+
+none_declared : (p : Program) (s : CState) → HasNoObjects p s → (x : Name) (e : Entity) → declared (map local_entity s.frame.objects ++ map file_entity p.unit.objects) x ≡ Some e → ⊥
+none_declared p s none x e is =
+    let found : (let r : Option Entity = None in r) ≡ Some e =
+      subst (λ os. declared (map local_entity [] ++ map file_entity os) x ≡ Some e) none.1 (subst (λ os. declared (map local_entity os ++ map file_entity p.unit.objects) x ≡ Some e) none.0 is) in
+    cc
+
+-- an expression of numbers with a type: a value of it, or a reason
+pub typed_comes : (p : Program) (s : CState) → NamesAreTyped (table_of p.target) s → HasNoObjects p s → (e : Expr) → IsOfNumbers ⊥ e → Comes (table_of p.target) ⊥ (static_type p s e) (eval p e s)
+typed_comes p s h none e form = value_comes p s h ⊥ (none_declared p s none) e form
+
+pub typed_numbers_are_not_stuck : TypedNumbersAreNotStuck
+typed_numbers_are_not_stuck p e s type h none form is stuck = subst (Comes (table_of p.target) ⊥ (static_type p s e)) stuck (typed_comes p s h none e form) type is

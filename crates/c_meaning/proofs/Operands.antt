@@ -1,11 +1,13 @@
 -- Operands in their common type, and the types of what operators give on values.
-use Rattle.std.proofs.Common.{◌≡◌, ℕ, ◌-◌, ◌≤◌, ℤ, pos, neg_ℤ, Bool, true, false, not, IsTrue, Option, Some, None, Result, Ok, Err, IfOk, arith, refl, ap, ◌∙◌}
-use Rattle.std.specs.Prelude.{if◌then◌else◌, int_lt, int_le, ◌||◌, bit_and, bit_or, bit_xor}
+use Rattle.std.proofs.Common.{◌≡◌, ℕ, ◌-◌, ◌≤◌, ℤ, pos, neg_ℤ, Bool, true, false, not, IsTrue, Option, Some, None, Result, Ok, Err, IfOk, arith, refl, sym, subst, ap, ◌∙◌}
+use Rattle.std.specs.Option.{option_and_then}
+use Rattle.std.specs.Prelude.{⊤, if◌then◌else◌, int_lt, int_le, ◌||◌, bit_and, bit_or, bit_xor}
 use Rattle.std.specs.Ordering.{int_eq}
 use Rattle.std.proofs.lemmas.Int.{ints}
 use Rattle.std.proofs.lemmas.Nat.{pow_pos}
 use Rattle.iv_words.specs.Kinds.{in_range_of}
 use Rattle.iv_script.specs.declared.Reason.{Reason}
+use Rattle.iv_script.specs.declared.Reason.TheVariants.{Shift}
 use Rattle.c_ast.specs.declared.Arith.{Arith}
 use Rattle.c_ast.specs.declared.Arith.TheVariants.{Int, UInt, Long, ULong, LongLong, ULongLong}
 use Rattle.c_ast.specs.declared.CKind.{CKind}
@@ -17,9 +19,10 @@ use Rattle.c_ast.specs.declared.CBinary.TheVariants.{Add, Sub, Mul, Div, Rem, An
 use Rattle.c_ast.specs.Targets.{TargetTable, arith_bits, arith_signed, promoted, common_in, common_type}
 use Rattle.iv_words.specs.Bits.{modulo}
 use Rattle.c_ast.specs.Conversions.{converted, can_hold}
-use Rattle.c_meaning.specs.Values.{CValue, Num, kind_of, is_true, on_ok}
-use Rattle.c_meaning.specs.Operators.{Operator, sum, difference, product, quotient, remainder, bitwise, shifted_left, shifted_right, computed, truth, converted_or, operand, in_common, usual, compared, shifted, unary, binary}
-use Rattle.c_meaning.specs.Expressions.{unary_type, binary_type}
+use Rattle.c_meaning.specs.Values.{Trouble, Undefined, Stuck, Address, CValue, Num, Ptr, held_type, is_true, on_ok}
+use Rattle.c_meaning.specs.Operators.{Operator, sum, difference, product, quotient, remainder, bitwise, shifted_left, shifted_right, with_number, computed, truth, converted_or, operand, in_common, usual, compared, shifted, unary, binary}
+use Rattle.c_ast.specs.declared.CBase.{CBase}
+use Rattle.c_ast.specs.StaticTypes.{ValueType, Arithmetic, PointerTo, unary_type, binary_type, of_unary, of_binary, of_both}
 use Rattle.c_ast.specs.TargetLaws.{SoundTable}
 use Rattle.c_meaning.specs.ExpressionLaws.{IsTyped, HasItsType}
 use Rattle.c_ast.proofs.Conversions.{held_stays, converted_held}
@@ -28,18 +31,22 @@ use Rattle.iv_words.proofs.Modular.{modulo_of_held}
 use Rattle.c_ast.proofs.Promotions.{promotion_keeps, signed_common_keeps}
 use Rattle.c_meaning.proofs.OperatorRanges.{Stays, InRange, sum_stays, difference_stays, product_stays, quotient_stays, remainder_stays, and_stays, or_stays, xor_stays, fitted_in_range, flipped_in_range, shifted_left_in_range, shifted_right_in_range}
 
-pub on_ok_if : {A B : Type 0} (P : A → Type 0) (Q : B → Type 0) (r : Result A Reason) (next : A → Result B Reason) → IfOk r P → ((a : A) → P a → IfOk (next a) Q) → IfOk (on_ok r next) Q
-on_ok_if P Q (Ok a) next h k = k a h
-on_ok_if P Q (Err why) next h k = tt
-
 -- a value of the type
 pub record Is (t : TargetTable) (kind : CKind) (v : CValue) : Type 0 where
   pub typed : IsTyped t v
-  pub of_kind : kind_of v ≡ kind
+  pub of_kind : held_type v ≡ Arithmetic kind
 
--- a value of a binary operator is of the type that the operator has on operands of their types
-abbrev pub Joined : TargetTable → CBinary → CValue → Option CKind → CValue → Type 0
-Joined t op a right v = IsTyped t v × ((l : CKind) → right ≡ Some l → kind_of v ≡ binary_type t op (kind_of a) l)
+-- a value of the type, or a reason, and never stuck
+abbrev pub Fine : TargetTable → CKind → Result CValue Trouble → Type 0
+Fine t kind (Ok v) = Is t kind v
+Fine t kind (Err (Undefined reason)) = ⊤
+Fine t kind (Err Stuck) = ⊥
+
+-- A value of what is said, or a reason; stuck only where no type is said, or with an excuse.
+abbrev pub Comes : TargetTable → (excuse : Type 0) → Option ValueType → Result CValue Trouble → Type 0
+Comes t excuse said (Ok v) = HasItsType t said v
+Comes t excuse said (Err (Undefined reason)) = ⊤
+Comes t excuse said (Err Stuck) = (type : ValueType) → said ≡ Some type → excuse
 
 -- ---- operands
 
@@ -59,6 +66,9 @@ converted_is bits false v h = refl
 converted_in_range : (bits : ℕ) (signed : Bool) (v : ℤ) (r : Option ℤ) → converted bits signed v ≡ r → InRange bits signed (converted_or r)
 converted_in_range bits signed v None e = tt
 converted_in_range bits signed v (Some w) e = converted_held bits signed v w e
+
+pub some_is : {A : Type 0} {a b : A} → (let r : Option A = Some a in r) ≡ Some b → a ≡ b
+some_is e = cc
 
 -- two operands of one type have that type, once it is promoted
 pub common_of_same : (t : TargetTable) (a : Arith) → common_in t a a ≡ a
@@ -95,28 +105,32 @@ module _ (t : TargetTable) (sound : SoundTable t) where
   right_operand k l v h = converted_is _ _ v (λ e. (signed_common_keeps t sound (promoted t k) (promoted t l) v e).1 (promotion_keeps t sound l v h))
 
   -- on values of their types, both operands are there in the common type
-  pub in_common_is : {A : Type 0} (next : Arith → ℤ → ℤ → Result A Reason) (k l : CKind) (a b : ℤ) → IsTrue (can_hold t k a) → IsTrue (can_hold t l b)
+  pub in_common_is : {A : Type 0} (next : Arith → ℤ → ℤ → Result A Trouble) (k l : CKind) (a b : ℤ) → IsTrue (can_hold t k a) → IsTrue (can_hold t l b)
       → in_common t next (Num k a) (Num l b)
       ≡ next (common_type t k l) (in_type (arith_bits t (common_type t k l)) (arith_signed (common_type t k l)) a) (in_type (arith_bits t (common_type t k l)) (arith_signed (common_type t k l)) b)
   in_common_is {A} next k l a b h g =
       let c = common_type t k l in
       let x = in_type (arith_bits t c) (arith_signed c) a in
-      ap (λ r. let q : Result A Reason = on_ok r (λ x. on_ok (operand t c b) (λ y. next c x y)) in q) (left_operand k l a h)
-      ∙ ap (λ r. let q : Result A Reason = on_ok r (λ y. next c x y) in q) (right_operand k l b g)
+      ap (λ r. let q : Result A Trouble = with_number r (λ x. with_number (operand t c b) (λ y. next c x y)) in q) (left_operand k l a h)
+      ∙ ap (λ r. let q : Result A Trouble = with_number r (λ y. next c x y) in q) (right_operand k l b g)
 
   operand_in_range : (c : Arith) (v : ℤ) → InRange (arith_bits t c) (arith_signed c) (operand t c v)
   operand_in_range c v = converted_in_range (arith_bits t c) (arith_signed c) v (converted (arith_bits t c) (arith_signed c) v) refl
 
-  in_common_if : {A : Type 0} (P : A → Type 0) (next : Arith → ℤ → ℤ → Result A Reason) (k l : CKind) (a b : ℤ)
-      → ((x y : ℤ) → HasType (common_type t k l) x → HasType (common_type t k l) y → IfOk (next (common_type t k l) x y) P) → IfOk (in_common t next (Num k a) (Num l b)) P
-  in_common_if P next k l a b h =
+  with_number_fine : (kind : CKind) (P : ℤ → Type 0) (r : Result ℤ Reason) (next : ℤ → Result CValue Trouble) → IfOk r P → ((v : ℤ) → P v → Fine t kind (next v)) → Fine t kind (with_number r next)
+  with_number_fine kind P (Ok v) next h f = f v h
+  with_number_fine kind P (Err reason) next h f = tt
+
+  in_common_fine : (kind : CKind) (next : Arith → ℤ → ℤ → Result CValue Trouble) (k l : CKind) (a b : ℤ)
+      → ((x y : ℤ) → HasType (common_type t k l) x → HasType (common_type t k l) y → Fine t kind (next (common_type t k l) x y)) → Fine t kind (in_common t next (Num k a) (Num l b))
+  in_common_fine kind next k l a b h =
       let c = common_type t k l in
-      on_ok_if (HasType c) P (operand t c a) (λ x. on_ok (operand t c b) (λ y. next c x y)) (operand_in_range c a)
-      (λ x hx. on_ok_if (HasType c) P (operand t c b) (next c x) (operand_in_range c b) (λ y hy. h x y hx hy))
+      with_number_fine kind (HasType c) (operand t c a) (λ x. with_number (operand t c b) (λ y. next c x y)) (operand_in_range c a)
+      (λ x hx. with_number_fine kind (HasType c) (operand t c b) (next c x) (operand_in_range c b) (λ y hy. h x y hx hy))
 
-  -- ---- what operators give
+  -- ---- what operators give on numbers
 
-  computed_is : (c : Arith) (r : Result ℤ Reason) → InRange (arith_bits t c) (arith_signed c) r → IfOk (computed c r) (Is t (Computed c))
+  computed_is : (c : Arith) (r : Result ℤ Reason) → InRange (arith_bits t c) (arith_signed c) r → Fine t (Computed c) (computed c r)
   computed_is c (Ok v) h = record { typed = h; of_kind = refl }
   computed_is c (Err why) h = tt
 
@@ -127,66 +141,156 @@ module _ (t : TargetTable) (sound : SoundTable t) where
   pub truth_is : (holds : Bool) → Is t (Computed Int) (truth holds)
   truth_is holds = record { typed = zero_or_one holds; of_kind = refl }
 
-  pub usual_is_typed : (f : Operator) → Stays f → (a b : CValue) → IfOk (usual t f a b) (Is t (Computed (common_type t (kind_of a) (kind_of b))))
-  usual_is_typed f stays (Num k a) (Num l b) =
-      in_common_if _ (λ c x y. computed c (f (arith_bits t c) (arith_signed c) x y)) k l a b
-      (λ x y hx hy. computed_is (common_type t k l) _ (stays _ _ x y (bits_some (common_type t k l)) hx hy))
+  -- on the values of two operands: fine on numbers, and stuck where one is a pointer
+  pub record Strict (op : CBinary) (next : CValue → CValue → Result CValue Trouble) : Type 0 where
+    pub numbers : (k l : CKind) (a b : ℤ) → IsTrue (can_hold t k a) → Fine t (binary_type t op k l) (next (Num k a) (Num l b))
+    pub right : (k : CKind) (a : ℤ) (constant : Bool) (base : CBase) (to : Address) → next (Num k a) (Ptr constant base to) ≡ Err Stuck
+    pub left : (constant : Bool) (base : CBase) (to : Address) (b : CValue) → next (Ptr constant base to) b ≡ Err Stuck
 
-  pub compared_is_typed : (holds : ℤ → ℤ → Bool) (a b : CValue) → IfOk (compared t holds a b) (Is t (Computed Int))
-  compared_is_typed holds (Num k a) (Num l b) = in_common_if _ (λ c x y. Ok (truth (holds x y))) k l a b (λ x y hx hy. truth_is (holds x y))
+  usual_strict : (op : CBinary) (f : Operator) → Stays f → ((k l : CKind) → Computed (common_type t k l) ≡ binary_type t op k l) → Strict op (usual t f)
+  usual_strict op f stays is = record {
+    numbers = λ k l a b h.
+        subst (λ kind. Fine t kind (usual t f (Num k a) (Num l b))) (is k l)
+        (in_common_fine (Computed (common_type t k l)) (λ c x y. computed c (f (arith_bits t c) (arith_signed c) x y)) k l a b
+        (λ x y hx hy. computed_is (common_type t k l) _ (stays _ _ x y (bits_some (common_type t k l)) hx hy)));
+    right = λ k a constant base to. refl;
+    left = λ constant base to b. refl;
+  }
 
-  unless_shift : (why : Reason) (kind : CKind) (r : Result CValue Reason) (test : Bool) → IfOk r (Is t kind) → IfOk (if test then Err why else r) (Is t kind)
-  unless_shift why kind r true h = tt
-  unless_shift why kind r false h = h
+  compared_strict : (op : CBinary) (holds : ℤ → ℤ → Bool) → ((k l : CKind) → Computed Int ≡ binary_type t op k l) → Strict op (compared t holds)
+  compared_strict op holds is = record {
+    numbers = λ k l a b h.
+        subst (λ kind. Fine t kind (compared t holds (Num k a) (Num l b))) (is k l)
+        (in_common_fine (Computed Int) (λ c x y. Ok (truth (holds x y))) k l a b (λ x y hx hy. truth_is (holds x y)));
+    right = λ k a constant base to. refl;
+    left = λ constant base to b. refl;
+  }
 
-  shifted_is_typed : (f : Operator) → ((c : Arith) (a b : ℤ) → HasType c a → InRange (arith_bits t c) (arith_signed c) (f (arith_bits t c) (arith_signed c) a b))
-      → (a b : CValue) → IsTyped t a → IfOk (shifted t f a b) (Is t (Computed (promoted t (kind_of a))))
-  shifted_is_typed f stays (Num k a) (Num l b) h =
-      unless_shift _ _ _ (int_lt b (pos 0) || int_le (pos (arith_bits t (promoted t k))) b) (computed_is (promoted t k) _ (stays (promoted t k) a b (promotion_keeps t sound k a h)))
+  unless_shift : (kind : CKind) (r : Result CValue Trouble) (test : Bool) → Fine t kind r → Fine t kind (if test then Err (Undefined Shift) else r)
+  unless_shift kind r true h = tt
+  unless_shift kind r false h = h
 
-  pub unary_is_typed : (op : CUnary) (v : CValue) → IsTyped t v → IfOk (unary t op v) (Is t (unary_type t op (kind_of v)))
-  unary_is_typed Neg (Num k v) h = let c = promoted t k in computed_is c _ (fitted_in_range (arith_bits t c) (arith_signed c) (neg_ℤ v))
-  unary_is_typed Flip (Num k v) h = let c = promoted t k in record { typed = flipped_in_range (arith_bits t c) (arith_signed c) v (promotion_keeps t sound k v h); of_kind = refl }
-  unary_is_typed Not v h = truth_is (not (is_true v))
+  shifted_strict : (op : CBinary) (f : Operator) → ((c : Arith) (a b : ℤ) → HasType c a → InRange (arith_bits t c) (arith_signed c) (f (arith_bits t c) (arith_signed c) a b))
+      → ((k l : CKind) → Computed (promoted t k) ≡ binary_type t op k l) → Strict op (shifted t f)
+  shifted_strict op f stays is = record {
+    numbers = λ k l a b h.
+        subst (λ kind. Fine t kind (shifted t f (Num k a) (Num l b))) (is k l)
+        (unless_shift (Computed (promoted t k)) _ (int_lt b (pos 0) || int_le (pos (arith_bits t (promoted t k))) b) (computed_is (promoted t k) _ (stays (promoted t k) a b (promotion_keeps t sound k a h))));
+    right = λ k a constant base to. refl;
+    left = λ constant base to b. refl;
+  }
 
-  joined : (op : CBinary) (a : CValue) (right : Option CKind) (kind : CKind) (r : Result CValue Reason) → ((l : CKind) → right ≡ Some l → kind ≡ binary_type t op (kind_of a) l) → IfOk r (Is t kind) → IfOk r (Joined t op a right)
-  joined op a right kind (Ok v) e h = (h.typed, λ l is. h.of_kind ∙ e l is)
-  joined op a right kind (Err why) e h = tt
+  unary_fine : (op : CUnary) (k : CKind) (v : ℤ) → IsTrue (can_hold t k v) → Fine t (unary_type t op k) (unary t op (Num k v))
+  unary_fine Neg k v h = let c = promoted t k in computed_is c _ (fitted_in_range (arith_bits t c) (arith_signed c) (neg_ℤ v))
+  unary_fine Flip k v h = let c = promoted t k in record { typed = flipped_in_range (arith_bits t c) (arith_signed c) v (promotion_keeps t sound k v h); of_kind = refl }
+  unary_fine Not k v h = truth_is (not (is_true (Num k v)))
 
-  module _ (a : CValue) (right : Option CKind) where
-    both : (op : CBinary) (next : CValue → Result CValue Reason) → ((b : CValue) → IfOk (next b) (Is t (binary_type t op (kind_of a) (kind_of b)))) → (r : Result CValue Reason) → IfOk r (HasItsType t right)
-        → IfOk (on_ok r next) (Joined t op a right)
-    both op next h r typed =
-        on_ok_if (HasItsType t right) (Joined t op a right) r next typed
-        (λ b has. joined op a right (binary_type t op (kind_of a) (kind_of b)) (next b) (λ l is. ap (binary_type t op (kind_of a)) (has.agrees l is)) (h b))
+  -- ---- results where the expression is said to have a type, or to have none
 
-    truth_joined : (op : CBinary) → ((l : CKind) → Computed Int ≡ binary_type t op (kind_of a) l) → (holds : Bool) → Joined t op a right (truth holds)
-    truth_joined op e holds = let is = truth_is holds in (is.typed, λ l found. is.of_kind ∙ e l)
+  module _ (excuse : Type 0) where
+    pub weaker : (said other : Option ValueType) (r : Result CValue Trouble) → ((type : ValueType) → other ≡ Some type → said ≡ Some type) → Comes t excuse said r → Comes t excuse other r
+    weaker said other (Ok v) f h = record { typed = h.typed; agrees = λ type is. h.agrees type (f type is) }
+    weaker said other (Err (Undefined reason)) f h = tt
+    weaker said other (Err Stuck) f h = λ type is. h type (f type is)
 
-    right_truth : (op : CBinary) → ((l : CKind) → Computed Int ≡ binary_type t op (kind_of a) l) → (r : Result CValue Reason) → IfOk (on_ok r (λ v. Ok (truth (is_true v)))) (Joined t op a right)
-    right_truth op e (Ok v) = truth_joined op e (is_true v)
-    right_truth op e (Err why) = tt
+    pub fine_comes : (kind : CKind) (said : Option ValueType) (r : Result CValue Trouble) → ((type : ValueType) → said ≡ Some type → Arithmetic kind ≡ type) → Fine t kind r → Comes t excuse said r
+    fine_comes kind said (Ok v) f h = record { typed = h.typed; agrees = λ type is. h.of_kind ∙ f type is }
+    fine_comes kind said (Err (Undefined reason)) f h = tt
+    fine_comes kind said (Err Stuck) f h = absurd h
 
-    either : (op : CBinary) (test : Bool) (r s : Result CValue Reason) → IfOk r (Joined t op a right) → IfOk s (Joined t op a right) → IfOk (if test then r else s) (Joined t op a right)
-    either op true r s h k = h
-    either op false r s h k = k
+    none_comes : (said : Option ValueType) (r : Result CValue Trouble) → said ≡ None → r ≡ Err Stuck → Comes t excuse said r
+    none_comes said r none is = subst (Comes t excuse said) (sym is) (λ type some. cc)
 
-    pub binary_is_typed : (op : CBinary) → IsTyped t a → (r : Result CValue Reason) → IfOk r (HasItsType t right) → IfOk (binary t op a r) (Joined t op a right)
-    binary_is_typed Add h r k = both Add (usual t sum a) (usual_is_typed sum sum_stays a) r k
-    binary_is_typed Sub h r k = both Sub (usual t difference a) (usual_is_typed difference difference_stays a) r k
-    binary_is_typed Mul h r k = both Mul (usual t product a) (usual_is_typed product product_stays a) r k
-    binary_is_typed Div h r k = both Div (usual t quotient a) (usual_is_typed quotient quotient_stays a) r k
-    binary_is_typed Rem h r k = both Rem (usual t remainder a) (usual_is_typed remainder remainder_stays a) r k
-    binary_is_typed And h r k = both And (usual t (bitwise bit_and) a) (usual_is_typed (bitwise bit_and) and_stays a) r k
-    binary_is_typed Or h r k = both Or (usual t (bitwise bit_or) a) (usual_is_typed (bitwise bit_or) or_stays a) r k
-    binary_is_typed Xor h r k = both Xor (usual t (bitwise bit_xor) a) (usual_is_typed (bitwise bit_xor) xor_stays a) r k
-    binary_is_typed Shl h r k = both Shl (shifted t shifted_left a) (λ b. shifted_is_typed shifted_left (λ c x y hx. shifted_left_in_range (arith_bits t c) (arith_signed c) x y) a b h) r k
-    binary_is_typed Shr h r k = both Shr (shifted t shifted_right a) (λ b. shifted_is_typed shifted_right (λ c x y hx. shifted_right_in_range (arith_bits t c) (arith_signed c) x y hx) a b h) r k
-    binary_is_typed Eq h r k = both Eq (compared t int_eq a) (compared_is_typed int_eq a) r k
-    binary_is_typed Ne h r k = both Ne (compared t (λ x y. not (int_eq x y)) a) (compared_is_typed (λ x y. not (int_eq x y)) a) r k
-    binary_is_typed Lt h r k = both Lt (compared t int_lt a) (compared_is_typed int_lt a) r k
-    binary_is_typed Le h r k = both Le (compared t int_le a) (compared_is_typed int_le a) r k
-    binary_is_typed Gt h r k = both Gt (compared t (λ x y. int_lt y x) a) (compared_is_typed (λ x y. int_lt y x) a) r k
-    binary_is_typed Ge h r k = both Ge (compared t (λ x y. int_le y x) a) (compared_is_typed (λ x y. int_le y x) a) r k
-    binary_is_typed AndAlso h r k = either AndAlso (is_true a) _ _ (right_truth AndAlso (λ l. refl) r) (truth_joined AndAlso (λ l. refl) false)
-    binary_is_typed OrElse h r k = either OrElse (is_true a) _ _ (truth_joined OrElse (λ l. refl) true) (right_truth OrElse (λ l. refl) r)
+    -- a value, and then what comes of it; where the whole is said to have a type, so is the part
+    pub on_ok_comes : (part said : Option ValueType) (r : Result CValue Trouble) (next : CValue → Result CValue Trouble) → (part ≡ None → said ≡ None) → Comes t excuse part r → ((v : CValue) → HasItsType t part v → Comes t excuse said (next v)) → Comes t excuse said (on_ok r next)
+    on_ok_comes part said (Ok v) next f h g = g v h
+    on_ok_comes part said (Err (Undefined reason)) next f h g = tt
+    on_ok_comes None said (Err Stuck) next f h g = λ type is. let no : ⊥ = (let none : said ≡ None = f refl in cc) in absurd no
+    on_ok_comes (Some part) said (Err Stuck) next f h g = λ type is. h part refl
+
+    -- ---- operators on one value
+
+    unary_of : (op : CUnary) (v : CValue) → IsTyped t v → Comes t excuse (of_unary t op (held_type v)) (unary t op v)
+    unary_of op (Num k v) h = fine_comes (unary_type t op k) (of_unary t op (Arithmetic k)) (unary t op (Num k v)) (λ type is. some_is is) (unary_fine op k v h)
+    unary_of Neg (Ptr constant base to) h = λ type is. cc
+    unary_of Flip (Ptr constant base to) h = λ type is. cc
+    unary_of Not (Ptr constant base to) h = record { typed = zero_or_one false; agrees = λ type is. cc }
+
+    pub unary_comes : (op : CUnary) (said : Option ValueType) (v : CValue) → HasItsType t said v → Comes t excuse (option_and_then (of_unary t op) said) (unary t op v)
+    unary_comes op None v h = weaker (of_unary t op (held_type v)) None (unary t op v) (λ type is. cc) (unary_of op v h.typed)
+    unary_comes op (Some u) v h = subst (λ w. Comes t excuse (of_unary t op w) (unary t op v)) (h.agrees u refl) (unary_of op v h.typed)
+
+    -- ---- operators on two values
+
+    abbrev Both : CBinary → CValue → Option ValueType → Option ValueType
+    Both op a right = option_and_then (of_binary t op (held_type a)) right
+
+    numbers_said : (op : CBinary) (k l : CKind) (right : Option ValueType) → ((type : ValueType) → right ≡ Some type → Arithmetic l ≡ type) → (type : ValueType) → option_and_then (of_binary t op (Arithmetic k)) right ≡ Some type → Arithmetic (binary_type t op k l) ≡ type
+    numbers_said op k l None agrees type is = cc
+    numbers_said op k l (Some u) agrees type is = some_is (ap (of_binary t op (Arithmetic k)) (agrees u refl) ∙ is)
+
+    pointer_right : (op : CBinary) (k : CKind) (constant : Bool) (base : CBase) (right : Option ValueType) → ((type : ValueType) → right ≡ Some type → PointerTo constant base ≡ type) → option_and_then (of_binary t op (Arithmetic k)) right ≡ None
+    pointer_right op k constant base None agrees = refl
+    pointer_right op k constant base (Some u) agrees = ap (of_binary t op (Arithmetic k)) (sym (agrees u refl))
+
+    pointer_left : (op : CBinary) (constant : Bool) (base : CBase) (right : Option ValueType) → option_and_then (of_binary t op (PointerTo constant base)) right ≡ None
+    pointer_left op constant base None = refl
+    pointer_left op constant base (Some u) = refl
+
+    strict_value : (op : CBinary) (next : CValue → CValue → Result CValue Trouble) → Strict op next → (a b : CValue) (right : Option ValueType) → IsTyped t a → HasItsType t right b → Comes t excuse (Both op a right) (next a b)
+    strict_value op next strict (Num k a) (Num l b) right h g =
+        fine_comes (binary_type t op k l) (Both op (Num k a) right) (next (Num k a) (Num l b)) (numbers_said op k l right g.agrees) (strict.numbers k l a b h)
+    strict_value op next strict (Num k a) (Ptr constant base to) right h g =
+        none_comes (Both op (Num k a) right) (next (Num k a) (Ptr constant base to)) (pointer_right op k constant base right g.agrees) (strict.right k a constant base to)
+    strict_value op next strict (Ptr constant base to) b right h g =
+        none_comes (Both op (Ptr constant base to) right) (next (Ptr constant base to) b) (pointer_left op constant base right) (strict.left constant base to b)
+
+    without_right : (op : CBinary) (a : CValue) (right : Option ValueType) → right ≡ None → Both op a right ≡ None
+    without_right op a right none = ap (option_and_then (of_binary t op (held_type a))) none
+
+    int_said : (op : CBinary) → ((k l : CKind) → Computed Int ≡ binary_type t op k l) → (u v type : ValueType) → of_binary t op u v ≡ Some type → Arithmetic (Computed Int) ≡ type
+    int_said op f (Arithmetic k) (Arithmetic l) type is = ap Arithmetic (f k l) ∙ some_is is
+    int_said op f (Arithmetic k) (PointerTo constant base) type is = cc
+    int_said op f (PointerTo constant base) v type is = cc
+
+    module _ (a : CValue) (right : Option ValueType) (h : IsTyped t a) (r : Result CValue Trouble) (g : Comes t excuse right r) where
+      strict_comes : (op : CBinary) (next : CValue → CValue → Result CValue Trouble) → Strict op next → Comes t excuse (Both op a right) (on_ok r (next a))
+      strict_comes op next strict = on_ok_comes right (Both op a right) r (next a) (without_right op a right) g (λ b has. strict_value op next strict a b right h has)
+
+      truth_comes : (op : CBinary) → ((u v : ValueType) (type : ValueType) → of_binary t op u v ≡ Some type → Arithmetic (Computed Int) ≡ type) → (holds : Bool) → Comes t excuse (Both op a right) (Ok (truth holds))
+      truth_comes op f holds = record { typed = zero_or_one holds; agrees = said right }
+        where
+          said : (right : Option ValueType) (type : ValueType) → Both op a right ≡ Some type → Arithmetic (Computed Int) ≡ type
+          said None type is = cc
+          said (Some v) type is = f (held_type a) v type is
+
+      right_truth : (op : CBinary) → ((u v : ValueType) (type : ValueType) → of_binary t op u v ≡ Some type → Arithmetic (Computed Int) ≡ type) → Comes t excuse (Both op a right) (on_ok r (λ v. Ok (truth (is_true v))))
+      right_truth op f = on_ok_comes right (Both op a right) r (λ v. Ok (truth (is_true v))) (without_right op a right) g (λ b has. truth_comes op f (is_true b))
+
+      either : (op : CBinary) (test : Bool) (x y : Result CValue Trouble) → Comes t excuse (Both op a right) x → Comes t excuse (Both op a right) y → Comes t excuse (Both op a right) (if test then x else y)
+      either op true x y i j = i
+      either op false x y i j = j
+
+      pub binary_of : (op : CBinary) → Comes t excuse (Both op a right) (binary t op a r)
+      binary_of Add = strict_comes Add (usual t sum) (usual_strict Add sum sum_stays (λ k l. refl))
+      binary_of Sub = strict_comes Sub (usual t difference) (usual_strict Sub difference difference_stays (λ k l. refl))
+      binary_of Mul = strict_comes Mul (usual t product) (usual_strict Mul product product_stays (λ k l. refl))
+      binary_of Div = strict_comes Div (usual t quotient) (usual_strict Div quotient quotient_stays (λ k l. refl))
+      binary_of Rem = strict_comes Rem (usual t remainder) (usual_strict Rem remainder remainder_stays (λ k l. refl))
+      binary_of And = strict_comes And (usual t (bitwise bit_and)) (usual_strict And (bitwise bit_and) and_stays (λ k l. refl))
+      binary_of Or = strict_comes Or (usual t (bitwise bit_or)) (usual_strict Or (bitwise bit_or) or_stays (λ k l. refl))
+      binary_of Xor = strict_comes Xor (usual t (bitwise bit_xor)) (usual_strict Xor (bitwise bit_xor) xor_stays (λ k l. refl))
+      binary_of Shl = strict_comes Shl (shifted t shifted_left) (shifted_strict Shl shifted_left (λ c x y hx. shifted_left_in_range (arith_bits t c) (arith_signed c) x y) (λ k l. refl))
+      binary_of Shr = strict_comes Shr (shifted t shifted_right) (shifted_strict Shr shifted_right (λ c x y hx. shifted_right_in_range (arith_bits t c) (arith_signed c) x y hx) (λ k l. refl))
+      binary_of Eq = strict_comes Eq (compared t int_eq) (compared_strict Eq int_eq (λ k l. refl))
+      binary_of Ne = strict_comes Ne (compared t (λ x y. not (int_eq x y))) (compared_strict Ne (λ x y. not (int_eq x y)) (λ k l. refl))
+      binary_of Lt = strict_comes Lt (compared t int_lt) (compared_strict Lt int_lt (λ k l. refl))
+      binary_of Le = strict_comes Le (compared t int_le) (compared_strict Le int_le (λ k l. refl))
+      binary_of Gt = strict_comes Gt (compared t (λ x y. int_lt y x)) (compared_strict Gt (λ x y. int_lt y x) (λ k l. refl))
+      binary_of Ge = strict_comes Ge (compared t (λ x y. int_le y x)) (compared_strict Ge (λ x y. int_le y x) (λ k l. refl))
+      binary_of AndAlso = either AndAlso (is_true a) _ _ (right_truth AndAlso (int_said AndAlso (λ k l. refl))) (truth_comes AndAlso (int_said AndAlso (λ k l. refl)) false)
+      binary_of OrElse = either OrElse (is_true a) _ _ (truth_comes OrElse (int_said OrElse (λ k l. refl)) true) (right_truth OrElse (int_said OrElse (λ k l. refl)))
+
+    pub binary_comes : (op : CBinary) (left right : Option ValueType) (a : CValue) → HasItsType t left a → (r : Result CValue Trouble) → Comes t excuse right r → Comes t excuse (of_both (of_binary t op) left right) (binary t op a r)
+    binary_comes op None right a h r g = weaker (Both op a right) None (binary t op a r) (λ type is. cc) (binary_of a right h.typed r g op)
+    binary_comes op (Some u) right a h r g = subst (λ w. Comes t excuse (option_and_then (of_binary t op w) right) (binary t op a r)) (h.agrees u refl) (binary_of a right h.typed r g op)

@@ -1,5 +1,5 @@
 -- Small units, and exactly what their runs come to: examples that hold the definitions fast.
-use Rattle.std.specs.Prelude.{◌≡◌, ℕ, ℤ, pos, List, [], ◌∷◌, map, None, true, false, codes}
+use Rattle.std.specs.Prelude.{◌≡◌, ℕ, ℤ, pos, List, [], ◌∷◌, map, Some, None, Bool, true, false, codes}
 use Rattle.iv_words.specs.declared.IntKind.TheVariants.{U8, I8}
 use Rattle.iv_script.specs.declared.Event.{Event}
 use Rattle.iv_script.specs.declared.Event.TheVariants as event
@@ -7,7 +7,7 @@ use Rattle.iv_script.specs.declared.Piece.TheVariants as piece
 use Rattle.iv_script.specs.declared.End.{End}
 use Rattle.iv_script.specs.declared.End.TheVariants.{Ended, Stopped, NoReply, BadReply, Going, Undefined}
 use Rattle.iv_script.specs.declared.Outcome.{Outcome}
-use Rattle.iv_script.specs.declared.Reason.TheVariants.{Implementation}
+use Rattle.iv_script.specs.declared.Reason.TheVariants.{Implementation, NoValue}
 use Rattle.iv_script.specs.declared.Script.{Script}
 use Rattle.c_ast.specs.declared.Target.TheVariants.{T32}
 use Rattle.c_ast.specs.declared.CScalar.TheVariants.{Truth, Int}
@@ -15,9 +15,11 @@ use Rattle.c_ast.specs.declared.CType.{CType}
 use Rattle.c_ast.specs.declared.CType.TheVariants.{Void, Value}
 use Rattle.c_ast.specs.declared.Suffix.TheVariants.{Plain, U}
 use Rattle.c_ast.specs.declared.CExtern.{CExtern}
-use Rattle.c_ast.specs.Syntax.{Name, Number, Stmt, Forever, Break, Return, Block, Call, Nil, TranslationUnit}
+use Rattle.c_ast.specs.declared.CBinary.TheVariants.{Div}
+use Rattle.c_ast.specs.Syntax.{Name, Expr, Number, Read, Binary, Var, Stmt, Const, ConstCall, If, IfElse, Forever, Break, Return, Block, Call, Nil, Function, TranslationUnit}
 use Rattle.c_ast.specs.Examples.{rows, procedure, unit_with}
-use Rattle.c_meaning.specs.Values.{unsaid}
+use Rattle.step_semantics.specs.Runs.{end_of}
+use Rattle.c_meaning.specs.State.{shown_as_stuck}
 use Rattle.c_meaning.specs.Runs.{run_c}
 
 -- ---- writing units, scripts and outcomes
@@ -48,6 +50,10 @@ once u n = run_c u T32 (main_script []) n
 abbrev pub outcome_of : List Event → End → Outcome
 outcome_of events end = record { events = events; end = end; areas = [] }
 
+-- a run that is stuck
+abbrev pub stuck : End
+stuck = end_of shown_as_stuck
+
 abbrev pub led : ℤ → Event
 led v = event.Call (codes "led") (piece.Value v ∷ [])
 
@@ -69,7 +75,7 @@ NoCalls = run_c (blinking []) T32 (record { calls = []; replies = [] }) 0 ≡ ou
 
 -- a function with `static` is not found
 abbrev pub HiddenMain : Type 0
-HiddenMain = once (unit_with [] (procedure true (codes "iv_main") [] ∷ [])) 1 ≡ outcome_of [] (Undefined unsaid)
+HiddenMain = once (unit_with [] (procedure true (codes "iv_main") [] ∷ [])) 1 ≡ outcome_of [] stuck
 
 -- ---- calls of an `extern`
 
@@ -141,7 +147,7 @@ CallsEarlierInSteps = once earlier_function 4 ≡ outcome_of (led (pos 1) ∷ []
 
 -- but not itself
 abbrev pub CallsItself : Type 0
-CallsItself = once (blinking (plain_call (codes "iv_main") ∷ [])) 9 ≡ outcome_of [] (Undefined unsaid)
+CallsItself = once (blinking (plain_call (codes "iv_main") ∷ [])) 9 ≡ outcome_of [] stuck
 
 -- ---- loops, `break`, `return` and blocks
 
@@ -165,3 +171,75 @@ Returns = once (blinking (Forever (rows (Block (rows (Return None ∷ [])) ∷ [
 -- a block takes no step
 abbrev pub Blocks : Type 0
 Blocks = once (blinking (Block (rows (pass (codes "iv_led") 1 ∷ [])) ∷ [])) 2 ≡ outcome_of (led (pos 1) ∷ returned ∷ []) Ended
+
+-- ---- values: names, parameters, results and conditions
+
+-- `int8_t`, `uint8_t` and `bool`
+abbrev pub small : CType
+small = Value (Int I8)
+
+abbrev pub byte : CType
+byte = Value (Int U8)
+
+abbrev pub truth : CType
+truth = Value Truth
+
+abbrev pub name : Name → Expr
+name x = Read (Var x)
+
+abbrev pub number : ℕ → Expr
+number v = Number v Plain
+
+abbrev pub half : Expr
+half = Binary Div (name (codes "iv_x")) (number 2)
+
+-- `uint8_t iv_f(uint8_t const iv_x) { .. }`, called by the outside or by `iv_main`
+abbrev pub of_byte : Bool → CType → List Stmt → Function
+of_byte hidden result body = record { hidden = hidden; name = codes "iv_f"; params = record { name = codes "iv_x"; ty = byte } ∷ []; result = result; body = rows body }
+
+abbrev pub calling : CType → List Stmt → List Stmt → TranslationUnit
+calling result f main = unit_with (takes (codes "iv_led") byte ∷ []) (of_byte true result f ∷ procedure false (codes "iv_main") main ∷ [])
+
+-- `TYPE const iv_r = iv_f(V);` and the name given to the outside
+abbrev pub shows_result : CType → ℕ → List Stmt
+shows_result t v = ConstCall (codes "iv_r") t (record { name = codes "iv_f"; args = number v ∷ [] }) ∷ Call (record { name = codes "iv_led"; args = name (codes "iv_r") ∷ [] }) ∷ []
+
+-- an entry call gives the value of its function, which is converted to its type where it returns
+abbrev pub entry_of : CType → List Stmt → ℤ → ℕ → Outcome
+entry_of result body v n = run_c (unit_with [] (of_byte false result body ∷ [])) T32 (record { calls = record { name = codes "f"; values = v ∷ []; line = 1 } ∷ []; replies = [] }) n
+
+abbrev pub gives : ℤ → Event
+gives v = event.Ret (codes "f") (Some v)
+
+pub record EntryValueExamples : Type 0 where
+  pub half_is : entry_of byte (Return (Some half) ∷ []) (pos 7) 2 ≡ outcome_of (gives (pos 3) ∷ []) Ended
+  pub needs_steps : entry_of byte (Return (Some half) ∷ []) (pos 7) 1 ≡ outcome_of [] Going
+  pub converted : entry_of small (Return (Some (name (codes "iv_x"))) ∷ []) (pos 200) 2 ≡ outcome_of [] (Undefined Implementation)
+  pub as_truth : entry_of truth (Return (Some (name (codes "iv_x"))) ∷ []) (pos 200) 2 ≡ outcome_of (gives (pos 1) ∷ []) Ended
+  pub nothing : entry_of Void [] (pos 200) 1 ≡ outcome_of (event.Ret (codes "f") None ∷ []) Ended
+  pub dropped : entry_of byte [] (pos 200) 1 ≡ outcome_of [] (Undefined NoValue)
+  pub wrong_return : entry_of byte (Return None ∷ []) (pos 200) 2 ≡ outcome_of [] stuck
+
+-- a call takes a step, the `return` one, and the declaration of its value one more
+pub record CallValueExamples : Type 0 where
+  pub shown : once (calling byte (Return (Some half) ∷ []) (shows_result byte 9)) 5 ≡ outcome_of (led (pos 4) ∷ returned ∷ []) Ended
+  pub before_the_led : once (calling byte (Return (Some half) ∷ []) (shows_result byte 9)) 4 ≡ outcome_of [] Going
+  pub argument_wraps : once (calling byte (Return (Some half) ∷ []) (shows_result byte 265)) 5 ≡ outcome_of (led (pos 4) ∷ returned ∷ []) Ended
+  pub declared_type : once (calling byte (Return (Some half) ∷ []) (shows_result truth 9)) 5 ≡ outcome_of (led (pos 1) ∷ returned ∷ []) Ended
+  pub used : once (calling byte [] (shows_result byte 9)) 5 ≡ outcome_of [] (Undefined NoValue)
+  pub unused_yet : once (calling byte [] (shows_result byte 9)) 2 ≡ outcome_of [] Going
+  pub dropped : once (calling byte [] (Call (record { name = codes "iv_f"; args = number 9 ∷ [] }) ∷ [])) 2 ≡ outcome_of (returned ∷ []) Ended
+  pub wrong_count : once (calling byte [] (plain_call (codes "iv_f") ∷ [])) 2 ≡ outcome_of [] stuck
+  pub hides_callers : once (calling byte (Return (Some (name (codes "iv_y"))) ∷ []) (Const (codes "iv_y") byte (number 1) ∷ shows_result byte 9)) 9 ≡ outcome_of [] stuck
+
+-- a name is declared in a step and ends with its block; a condition takes a step
+pub record NameAndConditionExamples : Type 0 where
+  pub declared : once (blinking (Const (codes "iv_y") byte (number 257) ∷ Call (record { name = codes "iv_led"; args = name (codes "iv_y") ∷ [] }) ∷ [])) 3 ≡ outcome_of (led (pos 1) ∷ returned ∷ []) Ended
+  pub not_yet : once (blinking (Const (codes "iv_y") small (number 200) ∷ [])) 1 ≡ outcome_of [] Going
+  pub too_great : once (blinking (Const (codes "iv_y") small (number 200) ∷ [])) 2 ≡ outcome_of [] (Undefined Implementation)
+  pub ended : once (blinking (Block (rows (Const (codes "iv_y") byte (number 1) ∷ [])) ∷ Call (record { name = codes "iv_led"; args = name (codes "iv_y") ∷ [] }) ∷ [])) 9 ≡ outcome_of [] stuck
+  pub taken : once (blinking (If (number 2) (rows (pass (codes "iv_led") 1 ∷ [])) ∷ [])) 3 ≡ outcome_of (led (pos 1) ∷ returned ∷ []) Ended
+  pub not_taken : once (blinking (If (number 0) (rows (pass (codes "iv_led") 1 ∷ [])) ∷ [])) 2 ≡ outcome_of (returned ∷ []) Ended
+  pub first : once (blinking (IfElse (number 1) (rows (pass (codes "iv_led") 1 ∷ [])) (rows (pass (codes "iv_led") 0 ∷ [])) ∷ [])) 3 ≡ outcome_of (led (pos 1) ∷ returned ∷ []) Ended
+  pub second : once (blinking (IfElse (number 0) (rows (pass (codes "iv_led") 1 ∷ [])) (rows (pass (codes "iv_led") 0 ∷ [])) ∷ [])) 3 ≡ outcome_of (led (pos 0) ∷ returned ∷ []) Ended
+  pub test_needs_a_step : once (blinking (If (number 0) Nil ∷ [])) 1 ≡ outcome_of [] Going

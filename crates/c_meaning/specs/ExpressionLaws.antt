@@ -1,26 +1,57 @@
--- What holds of the values of expressions: they have the types of their expressions, and their numbers are numbers of these types.
-use Rattle.std.specs.Prelude.{◌≡◌, All, Option, Some, IfOk, IsTrue}
-use Rattle.c_ast.specs.declared.CKind.{CKind}
-use Rattle.c_ast.specs.Syntax.{Expr}
+-- What holds of the values of expressions: they have the types of their expressions, and their numbers are numbers of these types; and an
+-- expression of numbers that has a type is never stuck.
+use Rattle.std.specs.Prelude.{◌≡◌, ◌≢◌, ⊤, List, [], All, Option, Some, IfOk, IsTrue, Err}
+use Rattle.c_ast.specs.declared.CType.TheVariants.{Void, Value, Pointer}
+use Rattle.c_ast.specs.Syntax.{Expr, Number, Read, Address, Unary, Binary, Cast, Cond, Var, At, Member, Element}
+use Rattle.c_ast.specs.StaticTypes.{ValueType}
 use Rattle.c_ast.specs.Targets.{TargetTable, table_of}
 use Rattle.c_ast.specs.Conversions.{can_hold}
-use Rattle.c_meaning.specs.Values.{CValue, Num, kind_of}
-use Rattle.c_meaning.specs.State.{Program, CState}
-use Rattle.c_meaning.specs.Expressions.{type_of, scope_types, eval}
+use Rattle.c_meaning.specs.Values.{Stuck, CValue, Num, Ptr, held_type}
+use Rattle.c_meaning.specs.State.{Program, Frame, CState}
+use Rattle.c_meaning.specs.Expressions.{static_type, eval}
 
 -- a value whose number is one of its type
 abbrev pub IsTyped : TargetTable → CValue → Type 0
 IsTyped t (Num kind v) = IsTrue (can_hold t kind v)
+IsTyped t (Ptr constant base to) = ⊤
+
+abbrev pub FrameIsTyped : TargetTable → Frame → Type 0
+FrameIsTyped t f = All (λ n. IsTyped t n.1) f.values
 
 abbrev pub NamesAreTyped : TargetTable → CState → Type 0
-NamesAreTyped t s = All (λ n. IsTyped t n.1) s.names
+NamesAreTyped t s = FrameIsTyped t s.frame
 
 -- its number is one of its type, and its type is that of its expression, where that has one
-pub record HasItsType (t : TargetTable) (of_expression : Option CKind) (v : CValue) : Type 0 where
+pub record HasItsType (t : TargetTable) (of_expression : Option ValueType) (v : CValue) : Type 0 where
   pub typed : IsTyped t v
-  pub agrees : (kind : CKind) → of_expression ≡ Some kind → kind_of v ≡ kind
+  pub agrees : (type : ValueType) → of_expression ≡ Some type → held_type v ≡ type
 
 abbrev pub ValuesHaveTheirTypes : Type 0
 ValuesHaveTheirTypes =
     (p : Program) (e : Expr) (s : CState) → NamesAreTyped (table_of p.target) s
-    → IfOk (eval p e s) (HasItsType (table_of p.target) (type_of (table_of p.target) (scope_types s) e))
+    → IfOk (eval p e s) (HasItsType (table_of p.target) (static_type p s e))
+
+-- ---- expressions of numbers
+
+-- made of constants, names, operators and casts; of other forms this asks for `others`
+abbrev pub IsOfNumbers : (others : Type 0) → Expr → Type 0
+IsOfNumbers others (Number v suffix) = ⊤
+IsOfNumbers others (Read (Var x)) = ⊤
+IsOfNumbers others (Read (At e)) = others
+IsOfNumbers others (Read (Member place m)) = others
+IsOfNumbers others (Read (Element place e)) = others
+IsOfNumbers others (Address place) = others
+IsOfNumbers others (Unary op e) = IsOfNumbers others e
+IsOfNumbers others (Binary op a b) = IsOfNumbers others a × IsOfNumbers others b
+IsOfNumbers others (Cast (Value s) e) = IsOfNumbers others e
+IsOfNumbers others (Cast (Pointer constant base) e) = others
+IsOfNumbers others (Cast Void e) = others
+IsOfNumbers others (Cond c a b) = IsOfNumbers others c × IsOfNumbers others a × IsOfNumbers others b
+
+abbrev pub HasNoObjects : Program → CState → Type 0
+HasNoObjects p s = (s.frame.objects ≡ []) × (p.unit.objects ≡ [])
+
+abbrev pub TypedNumbersAreNotStuck : Type 0
+TypedNumbersAreNotStuck =
+    (p : Program) (e : Expr) (s : CState) (type : ValueType) → NamesAreTyped (table_of p.target) s → HasNoObjects p s
+    → IsOfNumbers ⊥ e → static_type p s e ≡ Some type → eval p e s ≢ Err Stuck

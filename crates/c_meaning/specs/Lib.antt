@@ -1,6 +1,7 @@
 pub mod Values
 pub mod Operators
 pub mod State
+pub mod Scopes
 pub mod Expressions
 pub mod Calls
 pub mod Statements

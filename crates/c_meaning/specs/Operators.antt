@@ -17,7 +17,7 @@ use Rattle.c_ast.specs.declared.CBinary.TheVariants.{Add, Sub, Mul, Div, Rem, An
 use Rattle.c_ast.specs.Targets.{TargetTable, arith_bits, arith_signed, promoted, common_type}
 use Rattle.iv_words.specs.Bits.{modulo, two_to}
 use Rattle.c_ast.specs.Conversions.{converted}
-use Rattle.c_meaning.specs.Values.{CValue, Num, is_true, on_ok}
+use Rattle.c_meaning.specs.Values.{Trouble, Undefined, Stuck, CValue, Num, Ptr, is_true, on_ok}
 
 -- ---- numbers in a type of so many bits, with or without sign
 
@@ -71,9 +71,14 @@ shifted_right bits signed a b = if int_lt a (pos 0) then Err Implementation else
 
 -- ---- values
 
+-- what follows from a number, where there is one
+abbrev pub with_number : {A : Type 0} → Result ℤ Reason → (ℤ → Result A Trouble) → Result A Trouble
+with_number (Ok v) next = next v
+with_number (Err reason) next = Err (Undefined reason)
+
 -- a number as a value of the type
-abbrev pub computed : Arith → Result ℤ Reason → Result CValue Reason
-computed c r = on_ok r (λ v. Ok (Num (Computed c) v))
+abbrev pub computed : Arith → Result ℤ Reason → Result CValue Trouble
+computed c r = with_number r (λ v. Ok (Num (Computed c) v))
 
 -- the int that comparisons and `!`, `&&` and `||` give
 abbrev pub truth : Bool → CValue
@@ -87,27 +92,31 @@ converted_or (Some v) = Ok v
 abbrev pub operand : TargetTable → Arith → ℤ → Result ℤ Reason
 operand t c v = converted_or (converted (arith_bits t c) (arith_signed c) v)
 
--- both operands in their common type, and what is done with them there
-abbrev pub in_common : {A : Type 0} → TargetTable → (Arith → ℤ → ℤ → Result A Reason) → CValue → CValue → Result A Reason
+-- both operands in their common type, and what is done with them there; pointers are no operands
+abbrev pub in_common : {A : Type 0} → TargetTable → (Arith → ℤ → ℤ → Result A Trouble) → CValue → CValue → Result A Trouble
 in_common t next (Num k a) (Num l b) =
-    on_ok (operand t (common_type t k l) a) (λ x. on_ok (operand t (common_type t k l) b) (λ y. next (common_type t k l) x y))
+    with_number (operand t (common_type t k l) a) (λ x. with_number (operand t (common_type t k l) b) (λ y. next (common_type t k l) x y))
+in_common t next (Num k a) (Ptr constant base to) = Err Stuck
+in_common t next (Ptr constant base to) b = Err Stuck
 
 -- an operator on its operands in their common type, which is the type of the result
-abbrev pub usual : TargetTable → Operator → CValue → CValue → Result CValue Reason
+abbrev pub usual : TargetTable → Operator → CValue → CValue → Result CValue Trouble
 usual t f a b = in_common t (λ c x y. computed c (f (arith_bits t c) (arith_signed c) x y)) a b
 
 -- a comparison of both operands in their common type (6.5.8, 6.5.9)
-abbrev pub compared : TargetTable → (ℤ → ℤ → Bool) → CValue → CValue → Result CValue Reason
+abbrev pub compared : TargetTable → (ℤ → ℤ → Bool) → CValue → CValue → Result CValue Trouble
 compared t holds a b = in_common t (λ c x y. Ok (truth (holds x y))) a b
 
 -- A shift: its operands are promoted each by itself, which keeps their values, and its type is that of the left one. The amount
 -- comes before all else.
-abbrev pub shifted_at : TargetTable → Operator → Arith → ℤ → ℤ → Result CValue Reason
+abbrev pub shifted_at : TargetTable → Operator → Arith → ℤ → ℤ → Result CValue Trouble
 shifted_at t f c a b =
-    if int_lt b (pos 0) || int_le (pos (arith_bits t c)) b then Err Shift else computed c (f (arith_bits t c) (arith_signed c) a b)
+    if int_lt b (pos 0) || int_le (pos (arith_bits t c)) b then Err (Undefined Shift) else computed c (f (arith_bits t c) (arith_signed c) a b)
 
-abbrev pub shifted : TargetTable → Operator → CValue → CValue → Result CValue Reason
+abbrev pub shifted : TargetTable → Operator → CValue → CValue → Result CValue Trouble
 shifted t f (Num k a) (Num l b) = shifted_at t f (promoted t k) a b
+shifted t f (Num k a) (Ptr constant base to) = Err Stuck
+shifted t f (Ptr constant base to) b = Err Stuck
 
 -- ---- the operators
 
@@ -117,14 +126,16 @@ flipped bits false v = greatest_of bits false -ℤ v
 flipped bits true v = neg_ℤ v -ℤ pos 1
 
 -- on the value of the operand (6.5.3.3)
-abbrev pub unary : TargetTable → CUnary → CValue → Result CValue Reason
+abbrev pub unary : TargetTable → CUnary → CValue → Result CValue Trouble
 unary t Neg (Num k v) = computed (promoted t k) (fitted (arith_bits t (promoted t k)) (arith_signed (promoted t k)) (neg_ℤ v))
 unary t Flip (Num k v) = computed (promoted t k) (Ok (flipped (arith_bits t (promoted t k)) (arith_signed (promoted t k)) v))
+unary t Neg (Ptr constant base to) = Err Stuck
+unary t Flip (Ptr constant base to) = Err Stuck
 unary t Not v = Ok (truth (not (is_true v)))
 
 -- On the value of the left operand, and what the right one comes to. `&&` and `||` look at the right one only where the left one
 -- does not decide (6.5.13, 6.5.14).
-abbrev pub binary : TargetTable → CBinary → CValue → Result CValue Reason → Result CValue Reason
+abbrev pub binary : TargetTable → CBinary → CValue → Result CValue Trouble → Result CValue Trouble
 binary t Add a b = on_ok b (usual t sum a)
 binary t Sub a b = on_ok b (usual t difference a)
 binary t Mul a b = on_ok b (usual t product a)

@@ -1,43 +1,52 @@
 -- Functions, entry calls, and the whole run of a unit.
-use Rattle.std.specs.Prelude.{ℕ, ℤ, List, [], ◌∷◌, Option, Some, None, ◌&&◌, not, if◌then◌else◌, Result, Ok, Err}
+use Rattle.std.specs.Prelude.{ℕ, ℤ, List, [], ◌∷◌, map, Option, Some, None, ◌&&◌, not, if◌then◌else◌, Result, Ok, Err}
 use Rattle.iv_words.specs.Words.{same_word}
-use Rattle.iv_script.specs.declared.End.TheVariants.{Undefined}
 use Rattle.iv_script.specs.declared.Outcome.{Outcome}
-use Rattle.iv_script.specs.declared.Reason.{Reason}
+use Rattle.iv_script.specs.declared.Reason.TheVariants.{NoValue}
 use Rattle.iv_script.specs.declared.Script.{Script}
 use Rattle.step_semantics.specs.Steps.{Part, give, bind, block}
 use Rattle.step_semantics.specs.Control.{Control, Falls, Broke, Returned}
-use Rattle.step_semantics.specs.Runs.{Body, run}
+use Rattle.step_semantics.specs.Runs.{Body, end_of, run}
 use Rattle.c_ast.specs.declared.Target.{Target}
+use Rattle.c_ast.specs.declared.CKind.TheVariants.{Scalar}
 use Rattle.c_ast.specs.declared.CType.{CType}
-use Rattle.c_ast.specs.declared.CType.TheVariants.{Void}
+use Rattle.c_ast.specs.declared.CType.TheVariants.{Void, Value, Pointer}
 use Rattle.c_ast.specs.declared.CParam.{CParam}
 use Rattle.c_ast.specs.Syntax.{Name, FileObject, Function, TranslationUnit}
 use Rattle.c_ast.specs.Names.{outer_name}
-use Rattle.c_meaning.specs.Values.{CValue, Num, unsaid}
-use Rattle.c_meaning.specs.State.{Program, CState, seen, leave, in_own_scope}
-use Rattle.c_meaning.specs.Calls.{undefined, Calls, no_functions}
+use Rattle.c_meaning.specs.Values.{Trouble, Undefined, Stuck, CValue, Num, Ptr, on_ok, as_assigned, as_arguments}
+use Rattle.c_meaning.specs.State.{Program, program_of, end_in, CState, at_rest, seen, leave, in_own_frame}
+use Rattle.c_meaning.specs.Calls.{troubled, given, Calls, no_functions}
 use Rattle.c_meaning.specs.Statements.{exec_all}
 
 -- ---- functions
 
--- what a function gives back where control leaves its body: at the `}` and at `return;` no value (6.8.6.4, 6.9.1)
-abbrev pub function_value : Program → Control (Option CValue) → Part CState (Option CValue)
-function_value p Falls = give None
-function_value p (Returned value) = give value
-function_value p Broke = undefined p unsaid
+-- What a function gives back where control leaves its body: at the `}` no value, at a `return` its value, converted to the type
+-- of the result as by assignment (6.8.6.4, 6.9.1).
+abbrev pub function_value : Program → CType → Control (Option CValue) → Part CState (Option CValue)
+function_value p result Falls = give None
+function_value p Void (Returned None) = give None
+function_value p (Value s) (Returned None) = troubled p Stuck
+function_value p (Pointer constant base) (Returned None) = troubled p Stuck
+function_value p result (Returned (Some v)) = given p (as_assigned p.target result v) (λ a. give (Some a))
+function_value p result Broke = troubled p Stuck
 
--- a function's body, with the functions that it may call; no name of its caller is in scope there (6.2.1)
-abbrev pub function_body : Program → Calls → Function → Part CState (Option CValue)
-function_body p earlier f = bind (block leave (in_own_scope (exec_all p earlier f.body))) (function_value p)
+abbrev pub param_types : List CParam → List CType
+param_types params = map (λ x. x.ty) params
 
--- A function that is called with these values. Functions with parameters or a result are not yet given a meaning.
-abbrev pub function_call_of : Program → Calls → Function → List CParam → CType → List CValue → Part CState (Option CValue)
-function_call_of p earlier f [] Void [] = function_body p earlier f
-function_call_of p earlier f params result values = undefined p unsaid
+-- each parameter with the value of its argument
+abbrev pub bound : List CParam → List CValue → List (Name × CValue)
+bound [] vs = []
+bound (x ∷ xs) [] = []
+bound (x ∷ xs) (v ∷ vs) = (x.name, v) ∷ bound xs vs
 
+-- the body is a block in the frame of the parameters; the value is taken once both have been left
+abbrev pub function_body : Program → Calls → Function → List CValue → Part CState (Option CValue)
+function_body p earlier f args = bind (in_own_frame (bound f.params args) (block leave (exec_all p earlier f.body))) (function_value p f.result)
+
+-- a function that is called with these values, which are converted as by assignment (6.5.2.2)
 abbrev pub function_call : Program → Calls → Function → List CValue → Part CState (Option CValue)
-function_call p earlier f values = function_call_of p earlier f f.params f.result values
+function_call p earlier f values = given p (as_arguments p.target (param_types f.params) values) (function_body p earlier f)
 
 -- one function more that those after it may call
 abbrev pub with_function : Program → Calls → Function → Calls
@@ -45,18 +54,30 @@ with_function p earlier f name values = if same_word f.name name then function_c
 
 -- ---- entry calls
 
-abbrev pub number_of : Option CValue → Option ℤ
-number_of None = None
-number_of (Some (Num kind v)) = Some v
+-- what the outside gets of a function: of `void` nothing, and else its value, which it uses (6.9.1)
+abbrev pub entry_result : Program → CType → Option CValue → Part CState (Option ℤ)
+entry_result p Void value = give None
+entry_result p (Value s) None = troubled p (Undefined NoValue)
+entry_result p (Value s) (Some (Num kind v)) = give (Some v)
+entry_result p (Value s) (Some (Ptr constant base to)) = troubled p Stuck
+entry_result p (Pointer constant base) value = troubled p Stuck
+
+-- the numbers of the script as values of the parameters' types
+abbrev pub entry_values : List CType → List ℤ → Result (List CValue) Trouble
+entry_values [] [] = Ok []
+entry_values [] (v ∷ vs) = Err Stuck
+entry_values (t ∷ ts) [] = Err Stuck
+entry_values (Void ∷ ts) (v ∷ vs) = Err Stuck
+entry_values (Pointer constant base ∷ ts) (v ∷ vs) = Err Stuck
+entry_values (Value s ∷ ts) (v ∷ vs) = on_ok (entry_values ts vs) (λ rest. Ok (Num (Scalar s) v ∷ rest))
 
 -- a function that the outside calls, with the numbers of the script
 abbrev pub entered : Program → Calls → Function → List ℤ → Part CState (Option ℤ)
-entered p earlier f [] = bind (function_call p earlier f []) (λ value. give (number_of value))
-entered p earlier f (v ∷ vs) = undefined p unsaid
+entered p earlier f values = given p (entry_values (param_types f.params) values) (λ args. bind (function_call p earlier f args) (entry_result p f.result))
 
 -- the function that the outside calls by this name, without `static`, among those that are left to look at; it may call those before it
 abbrev pub entry_among : Program → Calls → List Function → Name → List ℤ → Part CState (Option ℤ)
-entry_among p earlier [] name values = undefined p unsaid
+entry_among p earlier [] name values = troubled p Stuck
 entry_among p earlier (f ∷ fs) name values =
     if not f.hidden && same_word (outer_name f.name) name then entered p earlier f values else entry_among p (with_function p earlier f) fs name values
 
@@ -65,19 +86,22 @@ entry p entry_call = entry_among p (no_functions p) p.unit.functions entry_call.
 
 -- ---- runs
 
--- the state before the first entry call, once the initializers of file scope are done; nothing is said yet of a unit with objects
-abbrev pub first_state_of : List FileObject → Result CState Reason
-first_state_of [] = Ok (record { names = [] })
-first_state_of (o ∷ os) = Err unsaid
+-- the state before the first entry call, once the initializers of file scope are done; a unit with objects has none yet
+abbrev pub first_state_of : List FileObject → Result CState Trouble
+first_state_of [] = Ok at_rest
+first_state_of (o ∷ os) = Err Stuck
 
-abbrev pub first_state : Program → Result CState Reason
+abbrev pub first_state : Program → Result CState Trouble
 first_state p = first_state_of p.unit.objects
 
 -- where an initializer of file scope has no meaning, no run has one
-abbrev pub run_from : Program → Result CState Reason → Script → ℕ → Outcome
+abbrev pub run_from : Program → Result CState Trouble → Script → ℕ → Outcome
 run_from p (Ok first) script n = run (seen p) (entry p) first script n
-run_from p (Err reason) script n = record { events = []; end = Undefined reason; areas = [] }
+run_from p (Err trouble) script n = record { events = []; end = end_of (end_in p trouble); areas = [] }
 
--- the run of a script within n steps
+-- the run of a program, and that of a unit, within n steps
+abbrev pub run_program : Program → Script → ℕ → Outcome
+run_program p script n = run_from p (first_state p) script n
+
 abbrev pub run_c : TranslationUnit → Target → Script → ℕ → Outcome
-run_c u t script n = let p : Program = record { target = t; unit = u } in run_from p (first_state p) script n
+run_c u t script n = run_program (program_of u t) script n

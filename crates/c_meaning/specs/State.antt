@@ -1,28 +1,84 @@
 -- What a run of C works on: the program, its state, and what the outside sees of it.
-use Rattle.std.specs.Prelude.{List, []}
+use Rattle.std.specs.Prelude.{ℕ, List, [], ◌∷◌}
 use Rattle.iv_script.specs.declared.AreaCells.{AreaCells}
-use Rattle.step_semantics.specs.Steps.{Part}
+use Rattle.iv_script.specs.declared.Reason.TheVariants.{NoValue}
+use Rattle.step_semantics.specs.Steps.{Halt, NoMeaning, Part, left}
+use Rattle.c_ast.specs.declared.CBase.{CBase}
 use Rattle.c_ast.specs.declared.Target.{Target}
 use Rattle.c_ast.specs.Syntax.{Name, TranslationUnit}
-use Rattle.c_meaning.specs.Values.{CValue}
+use Rattle.c_meaning.specs.Values.{Trouble, Undefined, Stuck, CValue}
 
--- what stays the same in a run
+-- ---- programs
+
+-- what stays the same in a run; `stuck` is how the run ends where it is stuck
 pub record Program : Type 0 where
   pub target : Target
   pub unit : TranslationUnit
+  pub stuck : Halt
 
--- the names in scope that hold a value, the latest first
+-- A report has no word of its own for a run that is stuck: this is how it is shown.
+abbrev pub shown_as_stuck : Halt
+shown_as_stuck = NoMeaning NoValue
+
+abbrev pub program_of : TranslationUnit → Target → Program
+program_of u t = record { target = t; unit = u; stuck = shown_as_stuck }
+
+-- how a run ends in trouble
+abbrev pub end_in : Program → Trouble → Halt
+end_in p (Undefined reason) = NoMeaning reason
+end_in p Stuck = p.stuck
+
+-- ---- states
+
+-- a name of an object that was declared in a block: which object, and of which type
+pub record LocalObject : Type 0 where
+  pub number : ℕ
+  pub base : CBase
+
+-- The names in scope in a function, each table with the latest first: those that hold a value, which are const names and
+-- parameters, and those of objects. The objects of file scope stand in the unit.
+pub record Frame : Type 0 where
+  pub values : List (Name × CValue)
+  pub objects : List (Name × LocalObject)
+
+-- the frame of the function that runs, and those of the functions that wait for it, the latest first
 pub record CState : Type 0 where
-  pub names : List (Name × CValue)
+  pub frame : Frame
+  pub callers : List Frame
+
+abbrev pub no_names : Frame
+no_names = record { values = []; objects = [] }
+
+-- between entry calls
+abbrev pub at_rest : CState
+at_rest = record { frame = no_names; callers = [] }
 
 -- The objects of file scope, in order, as the outside sees them. No unit with such objects has a first state yet.
 abbrev pub seen : Program → CState → List AreaCells
 seen p s = []
 
+-- ---- names come and go
+
+-- every name that comes to hold a value by a declaration (6.7)
+abbrev pub declare : Name → CValue → CState → CState
+declare x v s = record s { frame = record s.frame { values = (x, v) ∷ s.frame.values } }
+
 -- a name ends with the block in which it was declared (6.2.1)
 abbrev pub leave : CState → CState → CState
-leave before after = record after { names = before.names }
+leave before after = record after { frame = before.frame }
 
--- a part that begins with no name in scope
-abbrev pub in_own_scope : {A : Type 0} → Part CState A → Part CState A
-in_own_scope part n w s = part n w (record s { names = [] })
+-- a function is entered with its parameters, and no name of its caller is in scope there
+abbrev pub enter : List (Name × CValue) → CState → CState
+enter params s = record { frame = record { values = params; objects = [] }; callers = s.frame ∷ s.callers }
+
+-- and its caller goes on
+abbrev pub back_to : List Frame → CState → CState
+back_to [] s = record s { frame = no_names; callers = [] }
+back_to (f ∷ fs) s = record s { frame = f; callers = fs }
+
+abbrev pub return_from : CState → CState
+return_from s = back_to s.callers s
+
+-- a part in a frame of its own
+abbrev pub in_own_frame : {A : Type 0} → List (Name × CValue) → Part CState A → Part CState A
+in_own_frame params part n w s = left (λ before after. return_from after) s (part n w (enter params s))

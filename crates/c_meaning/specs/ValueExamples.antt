@@ -1,7 +1,6 @@
 -- Small expressions, and exactly what they come to: examples that hold the definitions fast.
 use Rattle.std.specs.Prelude.{◌≡◌, ℕ, pos, codes, [], ◌∷◌, Some, Result, Ok, Err}
 use Rattle.iv_words.specs.declared.IntKind.TheVariants.{U8, U32, I8}
-use Rattle.iv_script.specs.declared.Reason.{Reason}
 use Rattle.iv_script.specs.declared.Reason.TheVariants.{DivZero, Shift, Implementation}
 use Rattle.c_ast.specs.declared.Target.TheVariants.{T32}
 use Rattle.c_ast.specs.declared.CScalar.TheVariants.{Truth, Int as Exact}
@@ -12,22 +11,25 @@ use Rattle.c_ast.specs.declared.Suffix.TheVariants.{Plain, U}
 use Rattle.c_ast.specs.declared.CUnary.TheVariants.{Neg, Flip}
 use Rattle.c_ast.specs.declared.CBinary.TheVariants.{Add, Div, Shl, AndAlso, OrElse}
 use Rattle.c_ast.specs.Syntax.{Expr, Number, Read, Unary, Binary, Cast, Cond, Var}
-use Rattle.c_ast.specs.Targets.{table_of}
-use Rattle.c_meaning.specs.Values.{CValue, Num, unsaid}
-use Rattle.c_meaning.specs.State.{Program, CState}
-use Rattle.c_meaning.specs.Expressions.{type_of, scope_types, eval}
+use Rattle.c_ast.specs.StaticTypes.{Arithmetic}
+use Rattle.c_meaning.specs.Values.{Trouble, Undefined, Stuck, CValue, Num}
+use Rattle.c_meaning.specs.State.{Program, program_of, CState}
+use Rattle.c_meaning.specs.Expressions.{static_type, eval}
 use Rattle.c_meaning.specs.NumberExamples.{minus, int, unsigned, exact}
 
 -- ---- writing expressions, and where they are
 
 abbrev pub nothing : Program
-nothing = record { target = T32; unit = record { structs = []; externs = []; objects = []; functions = [] } }
+nothing = program_of (record { structs = []; externs = []; objects = []; functions = [] }) T32
 
 -- x holds 200 as uint8_t, and so does y in the block around, where x holds 7
 abbrev pub inside : CState
-inside = record { names = (codes "iv_x", exact U8 (pos 200)) ∷ (codes "iv_y", exact U8 (pos 200)) ∷ (codes "iv_x", exact U8 (pos 7)) ∷ [] }
+inside = record {
+  frame = record { values = (codes "iv_x", exact U8 (pos 200)) ∷ (codes "iv_y", exact U8 (pos 200)) ∷ (codes "iv_x", exact U8 (pos 7)) ∷ []; objects = [] };
+  callers = [];
+}
 
-abbrev pub value : Expr → Result CValue Reason
+abbrev pub value : Expr → Result CValue Trouble
 value e = eval nothing e inside
 
 abbrev pub x : Expr
@@ -57,21 +59,21 @@ too_far = Binary Shl (number 1) (number 32)
 pub record NameExamples : Type 0 where
   pub latest : value x ≡ Ok (exact U8 (pos 200))
   pub sum : value (Binary Add x y) ≡ Ok (int (pos 400))
-  pub unknown : value z ≡ Err unsaid
+  pub unknown : value z ≡ Err Stuck
 
 -- ---- from left to right, and only what is needed
 
 pub record OrderExamples : Type 0 where
-  pub left_first : value (Binary Add by_zero too_far) ≡ Err DivZero
-  pub then_right : value (Binary Add (number 1) too_far) ≡ Err Shift
-  pub turned : value (Binary Add too_far by_zero) ≡ Err Shift
+  pub left_first : value (Binary Add by_zero too_far) ≡ Err (Undefined DivZero)
+  pub then_right : value (Binary Add (number 1) too_far) ≡ Err (Undefined Shift)
+  pub turned : value (Binary Add too_far by_zero) ≡ Err (Undefined Shift)
   pub and_decided : value (Binary AndAlso (number 0) by_zero) ≡ Ok (int (pos 0))
-  pub and_undecided : value (Binary AndAlso (number 1) by_zero) ≡ Err DivZero
-  pub and_left : value (Binary AndAlso by_zero (number 0)) ≡ Err DivZero
+  pub and_undecided : value (Binary AndAlso (number 1) by_zero) ≡ Err (Undefined DivZero)
+  pub and_left : value (Binary AndAlso by_zero (number 0)) ≡ Err (Undefined DivZero)
   pub and_both : value (Binary AndAlso (number 2) (number 3)) ≡ Ok (int (pos 1))
   pub and_right : value (Binary AndAlso (number 2) (number 0)) ≡ Ok (int (pos 0))
   pub or_decided : value (Binary OrElse (number 2) by_zero) ≡ Ok (int (pos 1))
-  pub or_undecided : value (Binary OrElse (number 0) by_zero) ≡ Err DivZero
+  pub or_undecided : value (Binary OrElse (number 0) by_zero) ≡ Err (Undefined DivZero)
   pub or_right : value (Binary OrElse (number 0) (number 3)) ≡ Ok (int (pos 1))
   pub or_neither : value (Binary OrElse (number 0) (number 0)) ≡ Ok (int (pos 0))
 
@@ -81,7 +83,7 @@ pub record CastExamples : Type 0 where
   pub wraps : value (Cast (Value (Exact U8)) (number 300)) ≡ Ok (exact U8 (pos 44))
   pub below : value (Cast (Value (Exact U32)) (Unary Neg (number 1))) ≡ Ok (exact U32 (pos 4294967295))
   pub held : value (Cast (Value (Exact I8)) (Unary Neg (number 128))) ≡ Ok (exact I8 (minus 128))
-  pub past : value (Cast (Value (Exact I8)) (number 128)) ≡ Err Implementation
+  pub past : value (Cast (Value (Exact I8)) (number 128)) ≡ Err (Undefined Implementation)
   pub truth : value (Cast (Value Truth) (number 256)) ≡ Ok (Num (Scalar Truth) (pos 1))
   pub flipped : value (Cast (Value (Exact U8)) (Unary Flip x)) ≡ Ok (exact U8 (pos 55))
 
@@ -92,6 +94,7 @@ pub record ConditionExamples : Type 0 where
   pub second : value (Cond (number 0) (unsigned_number 1) (Unary Neg (number 1))) ≡ Ok (unsigned 4294967295)
   pub promoted : value (Cond (number 5) x y) ≡ Ok (int (pos 200))
   pub not_taken : value (Cond (number 1) (number 1) by_zero) ≡ Ok (int (pos 1))
-  pub taken : value (Cond (number 0) (number 1) by_zero) ≡ Err DivZero
-  pub test_first : value (Cond too_far by_zero by_zero) ≡ Err Shift
-  pub type : type_of (table_of T32) (scope_types inside) (Cond (number 1) (number 1) (unsigned_number 1)) ≡ Some (Computed UInt)
+  pub taken : value (Cond (number 0) (number 1) by_zero) ≡ Err (Undefined DivZero)
+  pub test_first : value (Cond too_far by_zero by_zero) ≡ Err (Undefined Shift)
+  pub type : static_type nothing inside (Cond (number 1) (number 1) (unsigned_number 1)) ≡ Some (Arithmetic (Computed UInt))
+  pub untyped : value (Cond (number 1) (number 1) z) ≡ Err Stuck

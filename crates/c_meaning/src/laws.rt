@@ -1,17 +1,18 @@
 ghost use Rattle.c_meaning.specs.Laws.{RunLaws};
-ghost use Rattle.c_meaning.specs.ExpressionLaws.{ValuesHaveTheirTypes};
-ghost use Rattle.c_meaning.specs.NumberExamples.{SumExamples, ProductExamples, QuotientExamples, BitExamples, LeftShiftExamples, RightShiftExamples, ComparisonExamples, UnaryExamples};
+ghost use Rattle.c_meaning.specs.ExpressionLaws.{ValuesHaveTheirTypes, TypedNumbersAreNotStuck};
+ghost use Rattle.c_meaning.specs.NumberExamples.{SumExamples, ProductExamples, QuotientExamples, BitExamples, LeftShiftExamples, RightShiftExamples, ComparisonExamples, UnaryExamples, PointerExamples};
 ghost use Rattle.c_meaning.specs.ValueExamples.{NameExamples, OrderExamples, CastExamples, ConditionExamples};
-ghost use Rattle.c_meaning.specs.Examples.{EmptyMain, EmptyMainNeedsAStep, NoCalls, HiddenMain, LedOnce, LedNeedsAStep, LedTwice, LedWraps, LedTruth, LedSigned, LedTooGreat, LedTooGreatLater, Replied, NotReplied, BadlyReplied, Stops, CallsEarlier, CallsEarlierInSteps, CallsItself, EndlessLoop, EndlessLed, LoopLeft, LoopLeftInSteps, Returns, Blocks};
+ghost use Rattle.c_meaning.specs.Examples.{EmptyMain, EmptyMainNeedsAStep, NoCalls, HiddenMain, LedOnce, LedNeedsAStep, LedTwice, LedWraps, LedTruth, LedSigned, LedTooGreat, LedTooGreatLater, Replied, NotReplied, BadlyReplied, Stops, CallsEarlier, CallsEarlierInSteps, CallsItself, EndlessLoop, EndlessLed, LoopLeft, LoopLeftInSteps, Returns, Blocks, EntryValueExamples, CallValueExamples, NameAndConditionExamples};
 
 /// The outcomes of a run of C: one for each number of steps, whose events only grow, and whose end stays.
 pub fn run_laws()
     ensures { RunLaws }
 {}
 
-/// The value of an expression is a number of the type of the expression.
+/// The value of an expression is one of the type of the expression, and a typed expression of numbers is not stuck.
 pub fn type_laws()
-    ensures { ValuesHaveTheirTypes }
+    ensures types { ValuesHaveTheirTypes }
+    ensures not_stuck { TypedNumbersAreNotStuck }
 {}
 
 /// What an entry call comes to, and for how many steps.
@@ -59,6 +60,13 @@ pub fn control_examples()
     ensures blocks { Blocks }
 {}
 
+/// What names, parameters, results and conditions come to, and for how many steps.
+pub fn value_examples()
+    ensures entries { EntryValueExamples }
+    ensures calls { CallValueExamples }
+    ensures names { NameAndConditionExamples }
+{}
+
 /// What `+`, `-`, `*`, `/` and `%` give.
 pub fn arithmetic_examples()
     ensures sums { SumExamples }
@@ -77,6 +85,7 @@ pub fn bit_examples()
 pub fn comparison_examples()
     ensures comparisons { ComparisonExamples }
     ensures unary { UnaryExamples }
+    ensures pointers { PointerExamples }
 {}
 
 /// What is evaluated, and in which order.

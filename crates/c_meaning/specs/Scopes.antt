@@ -1,0 +1,34 @@
+-- The names that a state has in scope, and as what they were declared.
+use Rattle.std.specs.Prelude.{List, [], ◌∷◌, map, ◌++◌, false, Option, Some, None, if◌then◌else◌}
+use Rattle.iv_words.specs.Words.{same_word}
+use Rattle.c_ast.specs.Syntax.{Name, FileObject}
+use Rattle.c_ast.specs.StaticTypes.{Entity, ConstName, ObjectName, Scope, declared}
+use Rattle.c_meaning.specs.Values.{CValue, held_type}
+use Rattle.c_meaning.specs.State.{Program, Frame, CState, LocalObject}
+
+-- what the table has for a name: the latest of that name (6.2.1)
+abbrev pub named : {A : Type 0} → List (Name × A) → Name → Option A
+named [] x = None
+named (n ∷ names) x = if same_word n.0 x then Some n.1 else named names x
+
+-- the value that a name holds in a state
+abbrev pub name_value : CState → Name → Option CValue
+name_value s x = named s.frame.values x
+
+-- ---- static scopes
+
+abbrev pub value_entity : Name × CValue → Name × Entity
+value_entity n = (n.0, ConstName (held_type n.1))
+
+abbrev pub local_entity : Name × LocalObject → Name × Entity
+local_entity n = (n.0, ObjectName false n.1.base)
+
+abbrev pub file_entity : FileObject → Name × Entity
+file_entity o = (o.name, ObjectName o.constant o.base)
+
+-- the declarations in scope: those of the function, and of file scope
+abbrev pub declarations : Program → CState → List (Name × Entity)
+declarations p s = map value_entity s.frame.values ++ (map local_entity s.frame.objects ++ map file_entity p.unit.objects)
+
+abbrev pub scope_of : Program → CState → Scope
+scope_of p s = declared (declarations p s)

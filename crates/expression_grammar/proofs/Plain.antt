@@ -18,7 +18,8 @@ use Rattle.reading.proofs.Starts.{terminal_nonempty}
 use Rattle.reading.proofs.Plain.{Plain, plain_terminal, plain_mapped, plain_spanned, plain_either, plain_as, plain_headed, plain_then, plain_last, plain_many}
 use Rattle.expression_grammar.specs.declared.PrimaryForm.{PrimaryForm}
 use Rattle.expression_grammar.specs.declared.PrimaryForm.TheVariants as form
-use Rattle.expression_grammar.specs.Tokens.{same_mark, is_mark, is_name, is_number, symbol, keyword, word_of, name_of, number_of, truth_of, signs}
+use Rattle.ivory_lexer.specs.Same.{same_mark}
+use Rattle.expression_grammar.specs.Tokens.{is_mark, is_name, is_number, symbol, keyword, word_of, name_of, number_of, truth_of, signs}
 use Rattle.expression_grammar.specs.Operators.{plain_prefix, is_plain_prefix}
 use Rattle.expression_grammar.specs.Trees as tree
 use Rattle.expression_grammar.specs.Grammar.{Symbol, Tree, Spells, Rule, operator_levels}

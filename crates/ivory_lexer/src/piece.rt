@@ -1,7 +1,7 @@
 use crate::mark::Mark;
 
 /// What a run of bytes is as a whole.
-#[derive(Clone, Copy, Debug, PartialEq, Eq)]
+#[derive(Clone, Copy)]
 pub enum Piece {
     /// White space or a comment.
     Dropped,

@@ -23,9 +23,10 @@ use Rattle.reading.proofs.Starts.{StartsWith, starts_terminal, either, either_fi
 use Rattle.reading.proofs.Nesting.{Within, barred_within, read_within, Below, barred_there, read_there, Brackets}
 use Rattle.reading.proofs.Plain.{Plain, plain_terminal, plain_mapped, plain_either, plain_last}
 use Rattle.reading.proofs.Lists.{good_optional, good_closed}
-use Rattle.expression_grammar.specs.Tokens.{same_mark, symbol, keyword, is_mark, is_key, is_name, word_of, name_of, number_of, int_of, signs}
+use Rattle.ivory_lexer.specs.Same.{same_mark}
+use Rattle.expression_grammar.specs.Tokens.{symbol, keyword, is_mark, is_key, is_name, word_of, name_of, number_of, int_of, signs}
 use Rattle.expression_grammar.specs.Reader.{mark_reader, key_reader}
-use Rattle.expression_grammar.proofs.Places.{same_mark_self, same_key_self}
+use Rattle.ivory_lexer.proofs.Same.{same_mark_self, same_key_self}
 use Rattle.expression_grammar.proofs.Tokens.{token, marked, keyed, symbol_passes, symbol_some, keyword_passes, keyword_some, name_passes, word_passes, at_mark}
 use Rattle.expression_grammar.proofs.Samples.{nowhere}
 use Rattle.expression_grammar.proofs.Plain.{symbol_plain}

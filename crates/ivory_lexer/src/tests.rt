@@ -16,13 +16,13 @@ fn show_kind(alloc: Global, kind: &TokenKind) -> Result<String, Fail> {
     })
 }
 
-/// What `lex` answers, as one line.
+/// What `lex` answers, as one line, by way of a copy.
 fn show(alloc: Global, text: &[u8]) -> Result<String, Fail> {
     if text.len() as u64 > SOURCE_LIMIT {
         return Ok(format!(in alloc; "too long")?);
     }
     let tokens = match lex(alloc, text) {
-        Ok(tokens) => tokens,
+        Ok(tokens) => tokens.copy(alloc)?,
         Err(why) => return Ok(format!(in alloc; "{why:?}")?),
     };
     let mut line = String::new(alloc);

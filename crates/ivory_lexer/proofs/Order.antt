@@ -49,7 +49,7 @@ given_kind at front piece.OpenComment k is e = absurd cc
 given_kind at front piece.Name k is e = name_kind at front k (name_piece front is) (nat_lt longest_name (length front)) refl (look_up keywords front) refl e
 given_kind at front (piece.Number (Some value)) k is e = let same : kind.Number value ≡ k = cc in subst IsKind same tt
 given_kind at front (piece.Number None) k is e = absurd cc
-given_kind at front (piece.Symbol mark) k is e = let same : kind.Mark mark ≡ k = cc in subst IsKind same tt
+given_kind at front (piece.Mark mark) k is e = let same : kind.Mark mark ≡ k = cc in subst IsKind same tt
 
 earlier : (low from high : ℕ) (ts : List Token) → low ≤ from → InOrder from ts high → InOrder low ts high
 earlier low from high [] le o = omega arith

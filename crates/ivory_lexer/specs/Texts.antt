@@ -31,7 +31,7 @@ gives at front piece.OpenComment = Err (fault.OpenComment at)
 gives at front piece.Name = if nat_lt longest_name (length front) then Err (fault.LongName at) else Ok (Some (kind_of_name (look_up keywords front) front))
 gives at front (piece.Number (Some value)) = Ok (Some (kind.Number value))
 gives at front (piece.Number None) = Err (fault.BigLiteral at)
-gives at front (piece.Symbol mark) = Ok (Some (kind.Mark mark))
+gives at front (piece.Mark mark) = Ok (Some (kind.Mark mark))
 
 abbrev pub token : ℕ → ℕ → TokenKind → Token
 token at n k = record { kind = k; span = record { start = at; end = at + n } }

@@ -52,7 +52,7 @@ fn kind_of(
         Piece::Name => name_kind(alloc, front, at),
         Piece::Number(Some(value)) => Ok(Some(TokenKind::Number(value))),
         Piece::Number(None) => Err(LexFault::BigLiteral(at)),
-        Piece::Symbol(mark) => Ok(Some(TokenKind::Mark(mark))),
+        Piece::Mark(mark) => Ok(Some(TokenKind::Mark(mark))),
     }
 }
 

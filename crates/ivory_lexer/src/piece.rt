@@ -10,5 +10,5 @@ pub enum Piece {
     Name,
     /// A number, or none where it is 2^64 or more.
     Number(Option<u64>),
-    Symbol(Mark),
+    Mark(Mark),
 }

@@ -31,7 +31,7 @@ given_place at front piece.OpenComment why e = let same : fault.OpenComment at �
 given_place at front piece.Name why e = name_place at (kind_of_name (look_up keywords front) front) why (nat_lt longest_name (length front)) e
 given_place at front (piece.Number (Some value)) why e = absurd cc
 given_place at front (piece.Number None) why e = let same : fault.BigLiteral at ≡ why = cc in sym (ap place_of same)
-given_place at front (piece.Symbol mark) why e = absurd cc
+given_place at front (piece.Mark mark) why e = absurd cc
 
 fault_within : {at : ℕ} {text : List ℕ} {why : LexFault} → LexFaultOf at text why → place_of why ≤ at + length text
 fault_within (no_piece {at} {text} some none) = omega arith

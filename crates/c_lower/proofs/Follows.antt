@@ -1,5 +1,5 @@
 -- The lowered unit follows its module, call by call, and so both directions hold of their runs.
-use Rattle.std.proofs.Common.{◌≡◌, ◌≢◌, ℕ, zero, suc, ℤ, ◌<◌, ◌≤◌, ◌^◌, Bool, true, false, List, [], ◌∷◌, map, Option, Some, None, Ok, refl, sym, ◌∙◌, ap, subst, arith}
+use Rattle.std.proofs.Common.{◌≡◌, ◌≢◌, ℕ, zero, suc, ℤ, pos, ◌<◌, ◌≤◌, ◌^◌, Bool, true, false, List, [], ◌∷◌, map, Option, Some, None, Result, Ok, refl, sym, ◌∙◌, ap, subst, arith}
 use Rattle.std.specs.Prelude.{All, IsTrue, if◌then◌else◌, replicate}
 use Rattle.std.proofs.lemmas.List.Elements.{All-head, All-tail}
 use Rattle.iv_words.specs.declared.IntKind.TheVariants.{U8}
@@ -24,15 +24,17 @@ use Rattle.core_meaning.specs.Source as source
 use Rattle.core_meaning.proofs.Source.{runs_defined}
 use Rattle.c_ast.specs.declared.Target.TheVariants.{T32}
 use Rattle.c_ast.specs.declared.CScalar.TheVariants.{Int}
-use Rattle.c_ast.specs.declared.CType.TheVariants.{Value}
+use Rattle.c_ast.specs.declared.CType.TheVariants.{Void, Value}
 use Rattle.c_ast.specs.Names.{prefixed}
 use Rattle.c_ast.specs.Syntax.{Function}
-use Rattle.c_meaning.specs.Values.{CValue, as_arguments}
-use Rattle.c_meaning.specs.State.{Program, CState, seen, leave}
+use Rattle.iv_script.specs.declared.Piece.{Piece}
+use Rattle.iv_script.specs.declared.Piece.TheVariants as piece
+use Rattle.c_meaning.specs.Values.{Trouble, CValue, on_ok, as_arguments}
+use Rattle.c_meaning.specs.State.{Program, program_of, CState, at_rest, seen, leave, enter, return_from}
 use Rattle.c_meaning.specs.Expressions.{eval_all}
-use Rattle.c_meaning.specs.Calls.{Calls, no_functions, given, piece_of, outside, call_found, call}
+use Rattle.c_meaning.specs.Calls.{Calls, no_functions, given, pieces_of, outside_with, outside, call_found, call}
 use Rattle.c_meaning.specs.Statements.{exec, exec_all}
-use Rattle.c_meaning.specs.Runs.{function_value, number_of, entered, entry_among, with_function, entry}
+use Rattle.c_meaning.specs.Runs.{function_value, entry_result, entered, entry_among, with_function, entry}
 use Rattle.c_meaning.proofs.Lawful.{entry_lawful}
 use Rattle.c_lower.specs.Shape.{extern_for}
 use Rattle.c_lower.specs.Lowered.{constant_for, name_of, call_for, body_for, function_for, lowered}
@@ -41,9 +43,9 @@ use Rattle.c_lower.proofs.Imports.{found}
 use Rattle.c_lower.proofs.Constants.{int_value, byte_value, constants_are, arguments_are}
 
 -- the same bytes reach the outside
-pieces_are : (values : List ℕ) → map piece_of (map byte_value values) ≡ source.pieces values
+pieces_are : (values : List ℕ) → pieces_of (map byte_value values) ≡ Ok (source.pieces values)
 pieces_are [] = refl
-pieces_are (v ∷ vs) = ap (λ rest. piece_of (byte_value v) ∷ rest) (pieces_are vs)
+pieces_are (v ∷ vs) = ap (λ r. on_ok r (λ rest. let q : Result (List Piece) Trouble = Ok (piece.Value (pos v) ∷ rest) in q)) (pieces_are vs)
 
 -- a step, and then both parts
 tick_then : {S A B : Type 0} (part : Part S A) (next : A → Part S B) (n : ℕ) (w : World) (s : S) → after (tick part n w s) next ≡ tick (bind part next) n w s
@@ -72,7 +74,7 @@ fell_still (Returned v) s b t t' fell = absurd fell
 
 module _ (m : FirstModule) (valid : Valid m) where
   abbrev program : Program
-  program = record { target = T32; unit = lowered m }
+  program = program_of (lowered m) T32
 
   abbrev NameDiffers : List ℕ → List ℕ → Type 0
   NameDiffers a b = a ≢ b
@@ -88,7 +90,7 @@ module _ (m : FirstModule) (valid : Valid m) where
 
     -- what a call comes to, once its step is taken
     abbrev reached : Part CState (Option CValue)
-    reached = outside program (extern_for target) (map byte_value c.values)
+    reached = outside_with program (extern_for target) (source.pieces c.values)
 
     arguments : as_arguments T32 (extern_for target).params (map int_value c.values) ≡ Ok (map byte_value c.values)
     arguments = ap (λ k. as_arguments T32 (replicate k (Value (Int U8))) (map int_value c.values)) (sym fits.counted) ∙ arguments_are c.values fits.small
@@ -97,6 +99,7 @@ module _ (m : FirstModule) (valid : Valid m) where
     call_is =
         ap (λ x. call_found program functions (prefixed target.name) (map int_value c.values) x) (found (map (λ p. p.name) m.procs) m.imports valid.different c.import target fits.found)
         ∙ ap (λ r. given program r (outside program (extern_for target))) arguments
+        ∙ ap (λ r. given program r (outside_with program (extern_for target))) (pieces_are c.values)
 
     exec_is : (j : ℕ) (w : World) (t : CState) → exec program functions (call_for m.imports c) j w t ≡ tick (bind reached (λ result. give Falls)) j w t
     exec_is j w t =
@@ -117,8 +120,7 @@ module _ (m : FirstModule) (valid : Valid m) where
         let next : List ℤ → Part CState (Control (Option CValue)) = λ reply. give Falls in
         let value : List ℤ → Part CState (Option CValue) = λ reply. give None in
         as_is Fell 0 0 n (act n w s) (λ j. c_act j w t) (λ j. after (import_call (seen program) target.name (source.pieces c.values) [] j w t) next)
-        (λ j. after_after (import_call (seen program) target.name (map piece_of (map byte_value c.values)) [] j w t) value (λ result. give Falls)
-        ∙ ap (λ pieces. after (import_call (seen program) target.name pieces [] j w t) next) (pieces_are c.values))
+        (λ j. after_after (import_call (seen program) target.name (source.pieces c.values) [] j w t) value (λ result. give Falls))
         (import_then_follows source.observed (seen program) s t refl 0 Fell 0 target.name (source.pieces c.values) [] (λ reply. give Falls) next n w
         (λ values ok i le v. rests Fell 0 Falls Falls i v s t tt))
 
@@ -157,11 +159,12 @@ module _ (m : FirstModule) (valid : Valid m) where
 
     -- ---- procedures
 
-    abbrev SameValue : Option ℤ → source.State → Option CValue → CState → Type 0
-    SameValue result s value t = number_of value ≡ result
+    -- no procedure gives a value yet
+    abbrev NoResult : Option ℤ → source.State → Option CValue → CState → Type 0
+    NoResult result s value t = result ≡ None
 
-    value_follows : (a : Control (Option ℤ)) (s : source.State) (b : Control (Option CValue)) (t : CState) → Fell a s b t → (n : ℕ) (w : World) → Follows SameValue 0 0 n (give (source.result_of a) n w s) (λ j. function_value program b j w t)
-    value_follows Falls s Falls t fell n w = rests SameValue 0 None None n w s t refl
+    value_follows : (a : Control (Option ℤ)) (s : source.State) (b : Control (Option CValue)) (t : CState) → Fell a s b t → (n : ℕ) (w : World) → Follows NoResult 0 0 n (give (source.result_of a) n w s) (λ j. function_value program Void b j w t)
+    value_follows Falls s Falls t fell n w = rests NoResult 0 None None n w s t refl
     value_follows Falls s Broke t fell n w = absurd fell
     value_follows Falls s (Returned u) t fell n w = absurd fell
     value_follows Broke s b t fell n w = absurd fell
@@ -170,16 +173,17 @@ module _ (m : FirstModule) (valid : Valid m) where
     entered_follows : (p : FirstProc) → BodyIsRight p → (s : source.State) (t : CState) (n : ℕ) (w : World) → Follows (Returns Alike) 15 0 n (source.entered m.imports (Some p) n w s) (λ j. entered program functions (function_for m.imports p) [] j w t)
     entered_follows p right s t n w =
         let body : Progress source.State (Control (Option ℤ)) = source.execs m.imports p.calls n w s in
-        let own : CState = record t { names = [] } in
+        let own : CState = enter [] t in
         let body' : ℕ → Progress CState (Control (Option CValue)) = λ j. exec_all program functions (body_for m.imports p.calls) j w own in
+        let framed : ℕ → Progress CState (Control (Option CValue)) = λ j. left (λ before after. return_from after) t (left leave own (body' j)) in
         let ends : Control (Option ℤ) → Part source.State (Option ℤ) = λ control. give (source.result_of control) in
-        let number : Option CValue → Part CState (Option ℤ) = λ value. give (number_of value) in
-        eased (Returns Alike) 0 0 15 0 n (after body ends) (λ j. after (after (left leave t (body' j)) (function_value program)) number) (omega arith) (omega arith)
-        (finished SameValue (Returns Alike) 0 0 0 n (after body ends) (λ j. after (left leave t (body' j)) (function_value program)) number
-        (bound Fell SameValue 0 0 0 n body (λ j. left leave t (body' j)) ends (function_value program)
-        (wrapped Fell Fell leave t 0 0 n body body' (λ a u b v fell. fell_still a u b v (leave t v) fell) (body_follows p.calls right s own n w))
+        eased (Returns Alike) 0 0 15 0 n (after body ends) (λ j. after (after (framed j) (function_value program Void)) (entry_result program Void)) (omega arith) (omega arith)
+        (finished NoResult (Returns Alike) 0 0 0 n (after body ends) (λ j. after (framed j) (function_value program Void)) (entry_result program Void)
+        (bound Fell NoResult 0 0 0 n body framed ends (function_value program Void)
+        (wrapped Fell Fell (λ before after. return_from after) t 0 0 n body (λ j. left leave own (body' j)) (λ a u b v fell. fell_still a u b v (return_from v) fell)
+        (wrapped Fell Fell leave own 0 0 n body body' (λ a u b v fell. fell_still a u b v (leave own v) fell) (body_follows p.calls right s own n w)))
         (λ a u b v fell i le x. value_follows a u b v fell i x))
-        (λ a u b v same i x. rests (Returns Alike) 0 a (number_of b) i x u v (record { same = same; states = tt })))
+        (λ a u b v none i x. rests (Returns Alike) 0 a None i x u v (record { same = sym none; states = tt })))
 
   -- ---- entry calls
 
@@ -211,4 +215,4 @@ module _ (m : FirstModule) (valid : Valid m) where
 
   pub lowered_refines : Refines m (lowered m) T32
   lowered_refines script fits =
-      run_refines source.observed (seen program) Alike (λ s t alike. refl) (source.exports_of m) (source.enter m) (entry program) (entry_lawful program) bodies_follow tt (record { names = [] }) tt script fits (runs_defined m valid script fits)
+      run_refines source.observed (seen program) Alike (λ s t alike. refl) (source.exports_of m) (source.enter m) (entry program) (entry_lawful program) bodies_follow tt at_rest tt script fits (runs_defined m valid script fits)

@@ -9,12 +9,12 @@ use Rattle.iv_script.specs.Scripts.{export_of, found_fits, values_fit}
 use Rattle.step_semantics.specs.Steps.{World, Progress, Part, give, after, bind, tick, left}
 use Rattle.step_semantics.specs.Control.{Control, Falls, Broke, Returned, onward}
 use Rattle.step_semantics.specs.Imports.{import_call}
-use Rattle.step_semantics.specs.Follows.{Follows}
+use Rattle.step_semantics.specs.Follows.{none_excused, Follows}
 use Rattle.step_semantics.specs.Bodies.{Returns, BodiesFollow}
-use Rattle.step_semantics.proofs.Equations.{after_after}
+use Rattle.step_semantics.proofs.Equations.{after_after, tick_then}
 use Rattle.step_semantics.proofs.Following.{as_is, eased, rests, both_tick, bound, finished, wrapped}
 use Rattle.step_semantics.proofs.ImportFollows.{import_then_follows}
-use Rattle.step_semantics.proofs.RunFollows.{run_refines}
+use Rattle.step_semantics.proofs.RunFollows.{run_refines, none_fails}
 use Rattle.first_form.specs.declared.FirstModule.{FirstModule}
 use Rattle.first_form.specs.declared.FirstImport.{FirstImport}
 use Rattle.first_form.specs.declared.FirstProc.{FirstProc}
@@ -46,11 +46,6 @@ use Rattle.c_lower.proofs.Constants.{int_value, byte_value, constants_are, argum
 pieces_are : (values : List ℕ) → pieces_of (map byte_value values) ≡ Ok (source.pieces values)
 pieces_are [] = refl
 pieces_are (v ∷ vs) = ap (λ r. on_ok r (λ rest. let q : Result (List Piece) Trouble = Ok (piece.Value (pos v) ∷ rest) in q)) (pieces_are vs)
-
--- a step, and then both parts
-tick_then : {S A B : Type 0} (part : Part S A) (next : A → Part S B) (n : ℕ) (w : World) (s : S) → after (tick part n w s) next ≡ tick (bind part next) n w s
-tick_then part next zero w s = refl
-tick_then part next (suc n) w s = refl
 
 -- states hold nothing yet
 abbrev Alike : source.State → CState → Type 0
@@ -115,20 +110,20 @@ module _ (m : FirstModule) (valid : Valid m) where
     abbrev c_act : Part CState (Control (Option CValue))
     c_act = bind reached (λ result. give Falls)
 
-    acts_follow : (n : ℕ) (w : World) (s : source.State) (t : CState) → Follows Fell 0 0 n (act n w s) (λ j. c_act j w t)
+    acts_follow : (n : ℕ) (w : World) (s : source.State) (t : CState) → Follows none_excused Fell 0 0 n (act n w s) (λ j. c_act j w t)
     acts_follow n w s t =
         let next : List ℤ → Part CState (Control (Option CValue)) = λ reply. give Falls in
         let value : List ℤ → Part CState (Option CValue) = λ reply. give None in
-        as_is Fell 0 0 n (act n w s) (λ j. c_act j w t) (λ j. after (import_call (seen program) target.name (source.pieces c.values) [] j w t) next)
+        as_is none_excused Fell 0 0 n (act n w s) (λ j. c_act j w t) (λ j. after (import_call (seen program) target.name (source.pieces c.values) [] j w t) next)
         (λ j. after_after (import_call (seen program) target.name (source.pieces c.values) [] j w t) value (λ result. give Falls))
-        (import_then_follows source.observed (seen program) s t refl 0 Fell 0 target.name (source.pieces c.values) [] (λ reply. give Falls) next n w
-        (λ values ok i le v. rests Fell 0 Falls Falls i v s t tt))
+        (import_then_follows none_excused source.observed (seen program) s t refl 0 Fell 0 target.name (source.pieces c.values) [] (λ reply. give Falls) next n w
+        (λ values ok i le v. rests none_excused Fell 0 Falls Falls i v s t tt))
 
-    exec_follows : (n : ℕ) (w : World) (s : source.State) (t : CState) → Follows Fell 0 0 n (source.exec m.imports c n w s) (λ j. exec program functions (call_for m.imports c) j w t)
+    exec_follows : (n : ℕ) (w : World) (s : source.State) (t : CState) → Follows none_excused Fell 0 0 n (source.exec m.imports c n w s) (λ j. exec program functions (call_for m.imports c) j w t)
     exec_follows n w s t =
-        subst (λ i. Follows Fell 0 0 n (source.call_of i c.values n w s) (λ j. exec program functions (call_for m.imports c) j w t)) (sym fits.found)
-        (as_is Fell 0 0 n (tick act n w s) (λ j. exec program functions (call_for m.imports c) j w t) (λ j. tick c_act j w t) (λ j. exec_is j w t)
-        (both_tick Fell 0 0 act c_act w s t (λ i. eased Fell 0 0 15 0 i (act i w s) (λ j. c_act j w t) (omega arith) (omega arith) (acts_follow i w s t)) n))
+        subst (λ i. Follows none_excused Fell 0 0 n (source.call_of i c.values n w s) (λ j. exec program functions (call_for m.imports c) j w t)) (sym fits.found)
+        (as_is none_excused Fell 0 0 n (tick act n w s) (λ j. exec program functions (call_for m.imports c) j w t) (λ j. tick c_act j w t) (λ j. exec_is j w t)
+        (both_tick none_excused Fell 0 0 act c_act w s t (λ i. eased none_excused Fell 0 0 15 0 i (act i w s) (λ j. c_act j w t) (omega arith) (omega arith) (acts_follow i w s t)) n))
 
   -- ---- bodies
 
@@ -139,8 +134,8 @@ module _ (m : FirstModule) (valid : Valid m) where
   BodyIsRight p = All CallIsRight p.calls
 
   -- the statements after one that fell through
-  onward_follows : (next : Part source.State (Control (Option ℤ))) (next' : Part CState (Control (Option CValue))) (n : ℕ) → ((s : source.State) (t : CState) (i : ℕ) (w : World) → Follows Fell 0 0 i (next i w s) (λ j. next' j w t))
-      → (a : Control (Option ℤ)) (s : source.State) (b : Control (Option CValue)) (t : CState) → Fell a s b t → (i : ℕ) → i ≤ n → (w : World) → Follows Fell 0 0 i (onward next a i w s) (λ j. onward next' b j w t)
+  onward_follows : (next : Part source.State (Control (Option ℤ))) (next' : Part CState (Control (Option CValue))) (n : ℕ) → ((s : source.State) (t : CState) (i : ℕ) (w : World) → Follows none_excused Fell 0 0 i (next i w s) (λ j. next' j w t))
+      → (a : Control (Option ℤ)) (s : source.State) (b : Control (Option CValue)) (t : CState) → Fell a s b t → (i : ℕ) → i ≤ n → (w : World) → Follows none_excused Fell 0 0 i (onward next a i w s) (λ j. onward next' b j w t)
   onward_follows next next' n h Falls s Falls t fell i le w = h s t i w
   onward_follows next next' n h Falls s Broke t fell i le w = absurd fell
   onward_follows next next' n h Falls s (Returned u) t fell i le w = absurd fell
@@ -148,12 +143,12 @@ module _ (m : FirstModule) (valid : Valid m) where
   onward_follows next next' n h (Returned v) s b t fell i le w = absurd fell
 
   module _ (functions : Calls) where
-    body_follows : (cs : List FirstCall) → All CallIsRight cs → (s : source.State) (t : CState) (n : ℕ) (w : World) → Follows Fell 0 0 n (source.execs m.imports cs n w s) (λ j. exec_all program functions (body_for m.imports cs) j w t)
-    body_follows [] right s t n w = rests Fell 0 Falls Falls n w s t tt
+    body_follows : (cs : List FirstCall) → All CallIsRight cs → (s : source.State) (t : CState) (n : ℕ) (w : World) → Follows none_excused Fell 0 0 n (source.execs m.imports cs n w s) (λ j. exec_all program functions (body_for m.imports cs) j w t)
+    body_follows [] right s t n w = rests none_excused Fell 0 Falls Falls n w s t tt
     body_follows (c ∷ cs) right s t n w =
         let rest : Part source.State (Control (Option ℤ)) = source.execs m.imports cs in
         let rest' : Part CState (Control (Option CValue)) = exec_all program functions (body_for m.imports cs) in
-        bound Fell Fell 0 0 0 n (source.exec m.imports c n w s) (λ j. exec program functions (call_for m.imports c) j w t) (onward rest) (onward rest')
+        bound none_excused Fell Fell 0 0 0 n (source.exec m.imports c n w s) (λ j. exec program functions (call_for m.imports c) j w t) (onward rest) (onward rest')
         (exec_follows functions c (All-head CallIsRight c cs right) n w s t)
         (onward_follows rest rest' n (λ u v i x. body_follows cs (All-tail CallIsRight c cs right) u v i x))
 
@@ -163,27 +158,27 @@ module _ (m : FirstModule) (valid : Valid m) where
     abbrev NoResult : Option ℤ → source.State → Option CValue → CState → Type 0
     NoResult result s value t = result ≡ None
 
-    value_follows : (a : Control (Option ℤ)) (s : source.State) (b : Control (Option CValue)) (t : CState) → Fell a s b t → (n : ℕ) (w : World) → Follows NoResult 0 0 n (give (source.result_of a) n w s) (λ j. function_value program Void b j w t)
-    value_follows Falls s Falls t fell n w = rests NoResult 0 None None n w s t refl
+    value_follows : (a : Control (Option ℤ)) (s : source.State) (b : Control (Option CValue)) (t : CState) → Fell a s b t → (n : ℕ) (w : World) → Follows none_excused NoResult 0 0 n (give (source.result_of a) n w s) (λ j. function_value program Void b j w t)
+    value_follows Falls s Falls t fell n w = rests none_excused NoResult 0 None None n w s t refl
     value_follows Falls s Broke t fell n w = absurd fell
     value_follows Falls s (Returned u) t fell n w = absurd fell
     value_follows Broke s b t fell n w = absurd fell
     value_follows (Returned v) s b t fell n w = absurd fell
 
-    entered_follows : (p : FirstProc) → BodyIsRight p → (s : source.State) (t : CState) (n : ℕ) (w : World) → Follows (Returns Alike) 15 0 n (source.entered m.imports (Some p) n w s) (λ j. entered program functions (function_for m.imports p) [] j w t)
+    entered_follows : (p : FirstProc) → BodyIsRight p → (s : source.State) (t : CState) (n : ℕ) (w : World) → Follows none_excused (Returns Alike) 15 0 n (source.entered m.imports (Some p) n w s) (λ j. entered program functions (function_for m.imports p) [] j w t)
     entered_follows p right s t n w =
         let body : Progress source.State (Control (Option ℤ)) = source.execs m.imports p.calls n w s in
         let own : CState = enter [] t in
         let body' : ℕ → Progress CState (Control (Option CValue)) = λ j. exec_all program functions (body_for m.imports p.calls) j w own in
         let framed : ℕ → Progress CState (Control (Option CValue)) = λ j. left (λ before after. return_from after) t (left leave own (body' j)) in
         let ends : Control (Option ℤ) → Part source.State (Option ℤ) = λ control. give (source.result_of control) in
-        eased (Returns Alike) 0 0 15 0 n (after body ends) (λ j. after (after (framed j) (function_value program Void)) (entry_result program Void)) (omega arith) (omega arith)
-        (finished NoResult (Returns Alike) 0 0 0 n (after body ends) (λ j. after (framed j) (function_value program Void)) (entry_result program Void)
-        (bound Fell NoResult 0 0 0 n body framed ends (function_value program Void)
-        (wrapped Fell Fell (λ before after. return_from after) t 0 0 n body (λ j. left leave own (body' j)) (λ a u b v fell. fell_still a u b v (return_from v) fell)
-        (wrapped Fell Fell leave own 0 0 n body body' (λ a u b v fell. fell_still a u b v (leave own v) fell) (body_follows p.calls right s own n w)))
+        eased none_excused (Returns Alike) 0 0 15 0 n (after body ends) (λ j. after (after (framed j) (function_value program Void)) (entry_result program Void)) (omega arith) (omega arith)
+        (finished none_excused NoResult (Returns Alike) 0 0 0 n (after body ends) (λ j. after (framed j) (function_value program Void)) (entry_result program Void)
+        (bound none_excused Fell NoResult 0 0 0 n body framed ends (function_value program Void)
+        (wrapped none_excused Fell Fell (λ before after. return_from after) t 0 0 n body (λ j. left leave own (body' j)) (λ a u b v fell. fell_still a u b v (return_from v) fell)
+        (wrapped none_excused Fell Fell leave own 0 0 n body body' (λ a u b v fell. fell_still a u b v (leave own v) fell) (body_follows p.calls right s own n w)))
         (λ a u b v fell i le x. value_follows a u b v fell i x))
-        (λ a u b v none i x. rests (Returns Alike) 0 a None i x u v (record { same = sym none; states = tt })))
+        (λ a u b v none i x. rests none_excused (Returns Alike) 0 a None i x u v (record { same = sym none; states = tt })))
 
   -- ---- entry calls
 
@@ -194,15 +189,15 @@ module _ (m : FirstModule) (valid : Valid m) where
   module _ (name : List ℕ) (values : List ℤ) (n : ℕ) (w : World) (s : source.State) (t : CState) where
     -- this procedure, or one of those after it
     chosen_follows : (b : Bool) (p : FirstProc) (earlier : Calls) (x : Export) (later : Option FirstProc) (later' : Option Export) (rest : Part CState (Option ℤ)) → BodyIsRight p → x ≡ source.export_for p
-        → (IsTrue (found_fits later' values) → Follows (Returns Alike) 15 0 n (source.entered m.imports later n w s) (λ j. rest j w t)) → IsTrue (found_fits (if b then Some x else later') values)
-        → Follows (Returns Alike) 15 0 n (source.entered m.imports (if b then Some p else later) n w s) (λ j. (if b then entered program earlier (function_for m.imports p) values else rest) j w t)
+        → (IsTrue (found_fits later' values) → Follows none_excused (Returns Alike) 15 0 n (source.entered m.imports later n w s) (λ j. rest j w t)) → IsTrue (found_fits (if b then Some x else later') values)
+        → Follows none_excused (Returns Alike) 15 0 n (source.entered m.imports (if b then Some p else later) n w s) (λ j. (if b then entered program earlier (function_for m.imports p) values else rest) j w t)
     chosen_follows true p earlier x later later' rest right is go fits =
         let none : values ≡ [] = no_values values (subst (λ y. IsTrue (values_fit y.params values)) is fits) in
-        subst (λ vs. Follows (Returns Alike) 15 0 n (source.entered m.imports (Some p) n w s) (λ j. entered program earlier (function_for m.imports p) vs j w t)) (sym none) (entered_follows earlier p right s t n w)
+        subst (λ vs. Follows none_excused (Returns Alike) 15 0 n (source.entered m.imports (Some p) n w s) (λ j. entered program earlier (function_for m.imports p) vs j w t)) (sym none) (entered_follows earlier p right s t n w)
     chosen_follows false p earlier x later later' rest right is go fits = go fits
 
     entry_follows : (ps : List FirstProc) → All BodyIsRight ps → (earlier : Calls) → IsTrue (found_fits (export_of name (map source.export_for ps)) values)
-        → Follows (Returns Alike) 15 0 n (source.entered m.imports (source.proc_of name ps) n w s) (λ j. entry_among program earlier (map (function_for m.imports) ps) name values j w t)
+        → Follows none_excused (Returns Alike) 15 0 n (source.entered m.imports (source.proc_of name ps) n w s) (λ j. entry_among program earlier (map (function_for m.imports) ps) name values j w t)
     entry_follows [] right earlier fits = let no : ⊥ = cc in absurd no
     entry_follows (p ∷ ps) right earlier fits =
         let f : Function = function_for m.imports p in
@@ -210,9 +205,9 @@ module _ (m : FirstModule) (valid : Valid m) where
         (entry_among program (with_function program earlier f) (map (function_for m.imports) ps) name values) (All-head BodyIsRight p ps right) refl
         (entry_follows ps (All-tail BodyIsRight p ps right) (with_function program earlier f)) fits
 
-  bodies_follow : BodiesFollow Alike (source.exports_of m) (source.enter m) (entry program)
+  bodies_follow : BodiesFollow none_excused Alike (source.exports_of m) (source.enter m) (entry program)
   bodies_follow entry_call fits n w s t alike = entry_follows entry_call.name entry_call.values n w s t m.procs valid.calls (no_functions program) fits
 
   pub lowered_refines : Refines m (lowered m) T32
   lowered_refines script fits =
-      run_refines source.observed (seen program) Alike (λ s t alike. refl) (source.exports_of m) (source.enter m) (entry program) (entry_lawful program) bodies_follow tt at_rest tt script fits (runs_defined m valid script fits)
+      run_refines none_excused source.observed (seen program) Alike (λ s t alike. refl) (source.exports_of m) (source.enter m) (entry program) (entry_lawful program) bodies_follow tt at_rest tt script fits (runs_defined m valid script fits) (none_fails (source.run_src m script))

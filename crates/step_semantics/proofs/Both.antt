@@ -1,14 +1,15 @@
 -- From a part that follows another to both directions: the second refines the first.
-use Rattle.std.proofs.Common.{◌≡◌, ◌≢◌, ℕ, ◌+◌, ◌*◌, List, refl, sym, ◌∙◌, ap, subst, arith, max}
+use Rattle.std.proofs.Common.{◌≡◌, ◌≢◌, ℕ, Bool, true, false, ◌+◌, ◌*◌, List, refl, sym, ◌∙◌, ap, subst, arith, max}
+use Rattle.std.specs.Prelude.{IsTrue}
 use Rattle.iv_script.specs.declared.AreaCells.{AreaCells}
-use Rattle.iv_script.specs.declared.End.TheVariants.{Ended, Going, Undefined}
+use Rattle.iv_script.specs.declared.End.TheVariants.{Ended, Going, Stopped, Undefined}
 use Rattle.iv_script.specs.declared.Outcome.{Outcome}
 use Rattle.iv_script.specs.declared.Reason.{Reason}
 use Rattle.step_semantics.specs.Steps.{World, Halt, FailedCheck, MissingReply, UnfitReply, NoMeaning, Progress, Finished, Halted, Exhausted, Part}
 use Rattle.step_semantics.specs.Runs.{outcome}
 use Rattle.step_semantics.specs.Lawful.{Prefix, Lawful}
-use Rattle.step_semantics.specs.Safe.{NeverUndefined}
-use Rattle.step_semantics.specs.Follows.{Ends, Follows}
+use Rattle.step_semantics.specs.Safe.{NeverUndefined, NeverFailsAt}
+use Rattle.step_semantics.specs.Follows.{Ends, Owed, Follows}
 use Rattle.step_semantics.specs.Refines.{Meets, Refines}
 use Rattle.step_semantics.specs.Outcomes.{OutcomeLaws}
 use Rattle.step_semantics.proofs.Ends.{halt_is_over}
@@ -28,7 +29,7 @@ refines_where_met source target l defined m =
           defined n reason (ap (λ o. o.end) (back n over) ∙ e);
     }
 
-module _ {S T A B : Type 0} (see : S → List AreaCells) (see' : T → List AreaCells) (post : A → S → B → T → Type 0) (alike : (a : A) (s : S) (b : B) (t : T) → post a s b t → see s ≡ see' t) (part : Part S A) (part' : Part T B) (lawful : Lawful part') (w : World) (s : S) (t : T) where
+module _ {S T A B : Type 0} (excused : ℕ → Bool) (see : S → List AreaCells) (see' : T → List AreaCells) (post : A → S → B → T → Type 0) (alike : (a : A) (s : S) (b : B) (t : T) → post a s b t → see s ≡ see' t) (part : Part S A) (part' : Part T B) (lawful : Lawful part') (w : World) (s : S) (t : T) where
   abbrev source : ℕ → Outcome
   source n = outcome see (part n w s)
 
@@ -41,8 +42,13 @@ module _ {S T A B : Type 0} (see : S → List AreaCells) (see' : T → List Area
       let over : (target h.steps).end ≢ Going = λ e. halt_is_over how (sym (ap (λ o. o.end) f) ∙ e) in
       record { steps = max n h.steps; many = omega arith; few = omega (arith, h.few); is = (part_outcomes see' part' lawful w t).ends_stay h.steps (max n h.steps) (omega arith) over ∙ f }
 
-  met : (n y : ℕ) (r : Progress S A) → ((reason : Reason) → (outcome see r).end ≢ Undefined reason) → Follows post 16 y n r (λ j. part' j w t) → Meets target n (outcome see r)
-  met n y (Finished a v u m) defined h =
+  -- what is owed, where it is not excused
+  owed_met : (b : Bool) (P Q : Type 0) → (IsTrue b → ⊥) → (P → Q) → Owed b P → Q
+  owed_met true P Q kept f h = absurd (kept refl)
+  owed_met false P Q kept f h = f h
+
+  met : (n y : ℕ) (r : Progress S A) → ((reason : Reason) → (outcome see r).end ≢ Undefined reason) → ((site : ℕ) → IsTrue (excused site) → (outcome see r).end ≢ Stopped site) → Follows excused post 16 y n r (λ j. part' j w t) → Meets target n (outcome see r)
+  met n y (Finished a v u m) defined unfailed h =
       let b = h.leads.by m in
       let e : see u ≡ see' h.state = alike a u h.value h.state h.holds in
       record {
@@ -51,11 +57,12 @@ module _ {S T A B : Type 0} (see : S → List AreaCells) (see' : T → List Area
         few = omega (arith, b.2);
         is = ap (outcome see') b.3 ∙ ap (λ l. let o : Outcome = record { events = v.events; end = Ended; areas = l } in o) (sym e);
       }
-  met n y (Halted (NoMeaning reason) v seen) defined h = absurd (defined reason refl)
-  met n y (Halted (FailedCheck site) v seen) defined h = met_end n (FailedCheck site) v seen h
-  met n y (Halted MissingReply v seen) defined h = met_end n MissingReply v seen h
-  met n y (Halted UnfitReply v seen) defined h = met_end n UnfitReply v seen h
-  met n y (Exhausted v) defined h = record { steps = h.steps; many = h.many; few = h.few; is = ap (outcome see') h.is }
+  met n y (Halted (NoMeaning reason) v seen) defined unfailed h = absurd (defined reason refl)
+  met n y (Halted (FailedCheck site) v seen) defined unfailed h = 
+      owed_met (excused site) (Ends 16 n (FailedCheck site) v seen (λ j. part' j w t)) (Meets target n (outcome {A = A} see (Halted (FailedCheck site) v seen))) (λ e. unfailed site e refl) (met_end n (FailedCheck site) v seen) h
+  met n y (Halted MissingReply v seen) defined unfailed h = met_end n MissingReply v seen h
+  met n y (Halted UnfitReply v seen) defined unfailed h = met_end n UnfitReply v seen h
+  met n y (Exhausted v) defined unfailed h = record { steps = h.steps; many = h.many; few = h.few; is = ap (outcome see') h.is }
 
-  pub part_refines : (y : ℕ) → NeverUndefined source → ((n : ℕ) → Follows post 16 y n (part n w s) (λ j. part' j w t)) → Refines source target
-  part_refines y defined h = refines_where_met source target (part_outcomes see' part' lawful w t) defined (λ n. met n y (part n w s) (defined n) (h n))
+  pub part_refines : (y : ℕ) → NeverUndefined source → NeverFailsAt excused source → ((n : ℕ) → Follows excused post 16 y n (part n w s) (λ j. part' j w t)) → Refines source target
+  part_refines y defined unfailed h = refines_where_met source target (part_outcomes see' part' lawful w t) defined (λ n. met n y (part n w s) (defined n) (unfailed n) (h n))

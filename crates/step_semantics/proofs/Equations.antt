@@ -1,6 +1,6 @@
 -- How what comes after a part is regrouped: for machines that keep what is left to do on a stack of their own.
 use Rattle.std.proofs.Common.{◌≡◌, ℕ, zero, suc, ◌+◌, ◌<◌, refl, ◌∙◌, ap, arith}
-use Rattle.step_semantics.specs.Steps.{World, Progress, Finished, Halted, Exhausted, Part, give, after, bind, ticks, left}
+use Rattle.step_semantics.specs.Steps.{World, Progress, Finished, Halted, Exhausted, Part, give, after, bind, tick, ticks, left}
 
 pub after_give : {S A : Type 0} (r : Progress S A) → after r give ≡ r
 after_give (Finished a w s n) = refl
@@ -38,3 +38,24 @@ pub ticks_short : {S A : Type 0} (k : ℕ) (part : Part S A) (n : ℕ) (w : Worl
 ticks_short zero part n w s lt = absurd (omega (arith, lt))
 ticks_short (suc k) part zero w s lt = refl
 ticks_short (suc k) part (suc n) w s lt = ticks_short k part n w s (omega (arith, lt))
+
+-- a step, and what comes after the part
+pub tick_then : {S A B : Type 0} (part : Part S A) (next : A → Part S B) (n : ℕ) (w : World) (s : S) → after (tick part n w s) next ≡ tick (bind part next) n w s
+tick_then part next zero w s = refl
+tick_then part next (suc n) w s = refl
+
+pub ticks_then : {S A B : Type 0} (k : ℕ) (part : Part S A) (next : A → Part S B) (n : ℕ) (w : World) (s : S) → after (ticks k part n w s) next ≡ ticks k (bind part next) n w s
+ticks_then zero part next n w s = refl
+ticks_then (suc k) part next zero w s = refl
+ticks_then (suc k) part next (suc n) w s = ticks_then k part next n w s
+
+pub ticks_same : {S A : Type 0} (k : ℕ) (p q : Part S A) → ((n : ℕ) (w : World) (s : S) → p n w s ≡ q n w s) → (n : ℕ) (w : World) (s : S) → ticks k p n w s ≡ ticks k q n w s
+ticks_same zero p q h n w s = h n w s
+ticks_same (suc k) p q h zero w s = refl
+ticks_same (suc k) p q h (suc n) w s = ticks_same k p q h n w s
+
+-- the last of so many steps, written by itself
+pub ticks_last : {S A : Type 0} (k : ℕ) (p : Part S A) (n : ℕ) (w : World) (s : S) → ticks k (tick p) n w s ≡ ticks (suc k) p n w s
+ticks_last zero p n w s = refl
+ticks_last (suc k) p zero w s = refl
+ticks_last (suc k) p (suc n) w s = ticks_last k p n w s

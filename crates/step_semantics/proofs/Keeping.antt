@@ -61,7 +61,7 @@ module _ (allowed : Halt → Type 0) where
 
   -- a loop keeps what its turns keep
   module _ {S V : Type 0} (mid post : Control V → S → Type 0) (broke : (s : S) → mid Broke s → post Falls s) (back : (v : V) (s : S) → mid (Returned v) s → post (Returned v) s) where
-    keeps_again : (loop : Part S (Control V)) → ((s : S) → mid Falls s → (n : ℕ) (w : World) → Keeps allowed post (loop n w s)) → (a : Control V) (s : S) → mid a s → (n : ℕ) (w : World) → Keeps allowed post (again loop a n w s)
+    pub keeps_again : (loop : Part S (Control V)) → ((s : S) → mid Falls s → (n : ℕ) (w : World) → Keeps allowed post (loop n w s)) → (a : Control V) (s : S) → mid a s → (n : ℕ) (w : World) → Keeps allowed post (again loop a n w s)
     keeps_again loop h Falls s p n w = h s p n w
     keeps_again loop h Broke s p n w = broke s p
     keeps_again loop h (Returned v) s p n w = back v s p

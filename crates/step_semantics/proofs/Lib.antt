@@ -12,3 +12,7 @@ pub mod Both
 pub mod RunFollows
 pub mod Keeping
 pub mod Safety
+pub mod CountedLaws
+pub mod CountedFollows
+pub mod Paying
+pub mod FrameLaws

@@ -1,5 +1,5 @@
 -- What is asked of two modules' procedures so that the runs of each script go alike.
-use Rattle.std.specs.Prelude.{◌≡◌, ℕ, ℤ, List, Option, IsTrue}
+use Rattle.std.specs.Prelude.{◌≡◌, ℕ, ℤ, Bool, List, Option, IsTrue}
 use Rattle.iv_script.specs.declared.EntryCall.{EntryCall}
 use Rattle.iv_script.specs.declared.Export.{Export}
 use Rattle.iv_script.specs.Scripts.{export_of, found_fits}
@@ -17,5 +17,5 @@ pub record Returns {S T : Type 0} (rel : S → T → Type 0) (result : Option �
   pub states : rel s t
 
 -- From related states each entry call follows. An entry call's own step is one on both sides, which leaves the second fifteen.
-abbrev pub BodiesFollow : {S T : Type 0} → (S → T → Type 0) → List Export → Body S → Body T → Type 0
-BodiesFollow {S} {T} rel exports body body' = (call : EntryCall) → CallFits call exports → (n : ℕ) (w : World) (s : S) (t : T) → rel s t → Follows (Returns rel) 15 0 n (body call n w s) (λ j. body' call j w t)
+abbrev pub BodiesFollow : {S T : Type 0} → (ℕ → Bool) → (S → T → Type 0) → List Export → Body S → Body T → Type 0
+BodiesFollow {S} {T} excused rel exports body body' = (call : EntryCall) → CallFits call exports → (n : ℕ) (w : World) (s : S) (t : T) → rel s t → Follows excused (Returns rel) 15 0 n (body call n w s) (λ j. body' call j w t)

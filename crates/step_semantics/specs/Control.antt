@@ -32,3 +32,8 @@ turns (suc most) body n w s = after (tick body n w s) (again (turns most body))
 -- a loop with no end of its own: no run has more turns than steps
 abbrev pub forever : {S V : Type 0} → Part S (Control V) → Part S (Control V)
 forever body n w s = turns n body n w s
+
+-- a loop that counts: a turn for i and `more` turns after it, for what comes next each time; each takes a step at its start
+abbrev pub counted : {S V : Type 0} → ℕ → (ℕ → ℕ) → ℕ → (ℕ → Part S (Control V)) → Part S (Control V)
+counted zero next i body = bind (tick (body i)) (again (give Falls))
+counted (suc more) next i body = bind (tick (body i)) (again (counted more next (next i) body))

@@ -1,10 +1,14 @@
 pub mod Steps
 pub mod Control
+pub mod Frames
 pub mod Imports
 pub mod Runs
 pub mod Lawful
 pub mod Outcomes
 pub mod Safe
+pub mod Takes
+pub mod Alike
 pub mod Follows
 pub mod Bodies
+pub mod Examples
 pub mod Refines

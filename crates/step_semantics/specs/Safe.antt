@@ -1,7 +1,7 @@
 -- Parts that halt only so far as is allowed, with what is known where they finish; above all, parts that never lack a
 -- defined meaning.
-use Rattle.std.specs.Prelude.{◌≢◌, ℕ}
-use Rattle.iv_script.specs.declared.End.TheVariants.{Undefined}
+use Rattle.std.specs.Prelude.{◌≢◌, ℕ, Bool, IsTrue}
+use Rattle.iv_script.specs.declared.End.TheVariants.{Stopped, Undefined}
 use Rattle.iv_script.specs.declared.Outcome.{Outcome}
 use Rattle.iv_script.specs.declared.Reason.{Reason}
 use Rattle.step_semantics.specs.Steps.{World, Halt, FailedCheck, MissingReply, UnfitReply, NoMeaning, Progress, Finished, Halted, Exhausted, Part}
@@ -28,3 +28,7 @@ pub record AlwaysSafe {S A : Type 0} (part : Part S A) : Type 0 where
 -- a run that has a meaning for every number of steps
 abbrev pub NeverUndefined : (ℕ → Outcome) → Type 0
 NeverUndefined run = (n : ℕ) (reason : Reason) → (run n).end ≢ Undefined reason
+
+-- a run in which no check of these sites ever fails
+abbrev pub NeverFailsAt : (ℕ → Bool) → (ℕ → Outcome) → Type 0
+NeverFailsAt sites run = (n site : ℕ) → IsTrue (sites site) → (run n).end ≢ Stopped site

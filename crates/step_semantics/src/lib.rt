@@ -7,12 +7,14 @@
 //! `proofs`. The functions do nothing: each carries a theorem, which a caller has after the call.
 #![tactic(auto)]
 
+mod control;
 mod imports;
 mod outcomes;
 mod refinement;
 mod runs;
 mod steps;
 
+pub use control::{frames_are_popped, own_areas_end, turns_are_counted};
 pub use imports::{a_reply_is_taken, an_import_call_is_seen, no_reply_is_wanted};
 pub use outcomes::{areas_are_hidden, ends_say_what_came, halts_are_told_apart};
 pub use refinement::{safe_procedures_make_safe_runs, sixteen_steps_suffice};

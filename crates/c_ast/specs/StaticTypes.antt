@@ -17,7 +17,7 @@ use Rattle.c_ast.specs.declared.expr.CBinary.{CBinary}
 use Rattle.c_ast.specs.declared.expr.CBinary.TheVariants.{Add, Sub, Mul, Div, Rem, And, Or, Xor, Shl, Shr, Eq, Ne, Lt, Le, Gt, Ge, AndAlso, OrElse}
 use Rattle.c_ast.specs.declared.unit.CStruct.{CStruct}
 use Rattle.c_ast.specs.Syntax.{Name, Expr, Number, Read, Address, Unary, Binary, Cast, Cond, Place, Var, At, Member, Element}
-use Rattle.c_ast.specs.Trees.{Leaf, Many, Struct, End, Field}
+use Rattle.type_trees.specs.Trees.{Leaf, Many, Struct, End, Field}
 use Rattle.c_ast.specs.Structs.{CTree, CRow, tree}
 use Rattle.c_ast.specs.Targets.{TargetTable, promoted, common_type}
 use Rattle.c_ast.specs.Conversions.{constant_type_in}

@@ -17,7 +17,7 @@ use Rattle.c_ast.specs.declared.expr.CUnary.TheVariants.{Neg, Flip, Not}
 use Rattle.c_ast.specs.declared.expr.CBinary.TheVariants.{Add, Shl, Lt, Eq, AndAlso}
 use Rattle.c_ast.specs.declared.unit.CStruct.{CStruct}
 use Rattle.c_ast.specs.Syntax.{Name, Expr, Number, Read, Address, Unary, Binary, Cast, Cond, Place, Var, At, Member, Element}
-use Rattle.c_ast.specs.Trees.{Leaf, Many}
+use Rattle.type_trees.specs.Trees.{Leaf, Many}
 use Rattle.c_ast.specs.Structs.{CTree, tree}
 use Rattle.c_ast.specs.Targets.{table_of}
 use Rattle.c_ast.specs.StaticTypes.{ValueType, Arithmetic, PointerTo, PlaceType, Held, Stored, Entity, ConstName, ObjectName, Scope, declared, expr_type, place_type, assigned_scalar}

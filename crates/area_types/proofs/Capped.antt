@@ -5,7 +5,8 @@ use Rattle.std.proofs.lemmas.Bool.{lt-leb}
 use Rattle.std.proofs.Math.Nat.{min-eq_left, min-eq_right}
 use Rattle.std.proofs.lemmas.Bool.{cases_lt}
 use Rattle.area_types.specs.Extents.{capped}
-use Rattle.area_types.specs.Sizes.{aligned}
+use Rattle.type_trees.specs.Multiples.{up}
+use Rattle.type_trees.proofs.Multiples.{up_from}
 
 abbrev top : ℕ
 top = 4_294_967_295
@@ -52,12 +53,12 @@ capped_product (suc m) n = go (cases n)
 pub capped_max : (m n : ℕ) → max (capped m) (capped n) ≡ capped (max m n)
 capped_max m n = omega arith
 
-pub capped_aligned : (o a : ℕ) → capped (aligned (capped o) a) ≡ capped (aligned o a)
-capped_aligned o a = go (cases o)
+pub capped_up : (o a : ℕ) → capped (up (capped o) a) ≡ capped (up o a)
+capped_up o a = go (cases o)
   where
-    go : Cases o → capped (aligned (capped o) a) ≡ capped (aligned o a)
+    go : Cases o → capped (up (capped o) a) ≡ capped (up o a)
     go (inl h) = rw h refl
-    go (inr h) = let b = capped_above (aligned (capped o) a) (omega arith) in let c = capped_above (aligned o a) (omega arith) in cc
+    go (inr h) = let b = capped_above (up (capped o) a) (omega (arith, up_from (capped o) a)) in let c = capped_above (up o a) (omega (arith, up_from o a)) in cc
 
 pub at_most_capped : (m n : ℕ) → n < 4_294_967_295 → nat_le (capped m) n ≡ nat_le m n
 at_most_capped m n h = go (cases m)

@@ -8,5 +8,4 @@ pub mod Sound
 pub mod Bounds
 pub mod Words
 pub mod Named
-pub mod Windows
 pub mod Within

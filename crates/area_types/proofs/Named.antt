@@ -17,7 +17,7 @@ position_within p i (x ∷ xs) k h = go (p x) (position_within p (i + 1) xs k) h
     go true later e = let same : i ≡ k = cc in omega arith
     go false later e = omega (arith, later e)
 
-struct_known : (structs : List StructType) (name : Name) → IsTrue (is_some (number_of structs name)) → unwrap_or (number_of structs name) 0 < length structs
+pub struct_known : (structs : List StructType) (name : Name) → IsTrue (is_some (number_of structs name)) → unwrap_or (number_of structs name) 0 < length structs
 struct_known structs name h = go (number_of structs name) refl h
   where
     go : (o : Option ℕ) → number_of structs name ≡ o → IsTrue (is_some o) → unwrap_or o 0 < length structs

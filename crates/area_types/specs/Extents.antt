@@ -1,34 +1,37 @@
 -- What one walk over an area finds: its numbers, each of which stops at the greatest `u32`.
-use Rattle.std.specs.Prelude.{ℕ, ◌+◌, ◌*◌, ◌≡◌, List, length, min, max, Option, Result, IfOk}
+use Rattle.std.specs.Prelude.{ℕ, ◌+◌, ◌*◌, ◌≡◌, List, min, max, Option, Result, IfOk}
 use Rattle.std.specs.Option.{option_map}
 use Rattle.iv_words.specs.declared.IntKind.{IntKind}
+use Rattle.type_trees.specs.Multiples.{up}
+use Rattle.type_trees.specs.Trees.{count, count_row, nodes, nodes_row, levels, levels_row, part, first}
+use Rattle.type_trees.specs.Layouts.{align, align_row, size, end_row}
 use Rattle.area_types.specs.Syntax.{Area}
 use Rattle.area_types.specs.View.{found_of}
-use Rattle.area_types.specs.Trees.{Tree, Fields, cells, nodes, levels, places_in, nodes_in, levels_in, part, first, area_in}
-use Rattle.area_types.specs.Sizes.{size, alignment, end_of, alignment_of, aligned}
+use Rattle.area_types.specs.Trees.{Written, WrittenRow, area_in}
+use Rattle.area_types.specs.Sizes.{metric}
 use Rattle.area_types.specs.declared.area.Area.{Area as AreaTree}
 use Rattle.area_types.specs.declared.extent.Extent.{Extent}
 
 abbrev pub capped : ℕ → ℕ
 capped n = min n 4_294_967_295
 
-abbrev pub extent_of : List IntKind → Tree → Extent
+abbrev pub extent_of : List IntKind → Written → Extent
 extent_of words a = record {
-  cells = capped (cells a);
+  cells = capped (count a);
   nodes = capped (nodes a);
-  size = capped (size words a);
-  alignment = alignment words a;
+  size = capped (size (metric words) a);
+  alignment = align (metric words) a;
   levels = capped (levels a);
 }
 
 -- of a row of fields; its size is where the last one ends
-abbrev pub row_extent : List IntKind → Fields → Extent
+abbrev pub row_extent : List IntKind → WrittenRow → Extent
 row_extent words fields = record {
-  cells = capped (length (places_in fields));
-  nodes = capped (nodes_in fields);
-  size = capped (end_of words fields 0);
-  alignment = alignment_of words fields;
-  levels = capped (levels_in fields);
+  cells = capped (count_row fields);
+  nodes = capped (nodes_row fields);
+  size = capped (end_row (metric words) fields 0);
+  alignment = align_row (metric words) fields;
+  levels = capped (levels_row fields);
 }
 
 -- of an array of so many such elements
@@ -46,7 +49,7 @@ abbrev pub with_field : Extent → Extent → Extent
 with_field e f = record {
   cells = capped (e.cells + f.cells);
   nodes = capped (e.nodes + f.nodes);
-  size = capped (capped (aligned e.size f.alignment) + f.size);
+  size = capped (capped (up e.size f.alignment) + f.size);
   alignment = max e.alignment f.alignment;
   levels = max e.levels f.levels;
 }
@@ -56,17 +59,17 @@ abbrev pub enclosed : Extent → Extent
 enclosed e = record {
   cells = e.cells;
   nodes = capped (1 + e.nodes);
-  size = capped (aligned e.size e.alignment);
+  size = capped (up e.size e.alignment);
   alignment = e.alignment;
   levels = capped (1 + e.levels);
 }
 
 -- the first cell and the area of a part
-abbrev pub capped_cell_at : Tree → List ℕ → Option (ℕ × Area)
+abbrev pub capped_cell_at : Written → List ℕ → Option (ℕ × Area)
 capped_cell_at a path = option_map (λ b. (capped (first a path), area_in b)) (part a path)
 
 -- what was found, and is no want of memory, is that part
-abbrev pub Finds : {E : Type 0} → Result (Option (ℕ × AreaTree)) E → Tree → List ℕ → Type 0
+abbrev pub Finds : {E : Type 0} → Result (Option (ℕ × AreaTree)) E → Written → List ℕ → Type 0
 Finds result a path = IfOk result (λ found. option_map found_of found ≡ capped_cell_at a path)
 
 -- the part that was found in an area, in one where so many cells stand before that area

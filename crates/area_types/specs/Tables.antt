@@ -2,11 +2,13 @@
 use Rattle.std.specs.Prelude.{ℕ, List, [], ◌∷◌, ◌++◌, length, map, nat_lt, nat_le, Bool, true, false, ◌&&◌}
 use Rattle.std.specs.List.{list_all}
 use Rattle.iv_words.specs.declared.IntKind.{IntKind}
+use Rattle.type_trees.specs.Trees.{Struct, levels}
+use Rattle.type_trees.specs.Layouts.{size}
 use Rattle.area_types.specs.Syntax as syntax
 use Rattle.area_types.specs.Syntax.{ValueType, Area, Field, StructType}
 use Rattle.area_types.specs.View.{field_of, struct_of}
-use Rattle.area_types.specs.Trees.{Tree, Fields, Parts, tree_of, fields_of, trees_of, levels}
-use Rattle.area_types.specs.Sizes.{size}
+use Rattle.area_types.specs.Trees.{Written, WrittenRow, tree_of, fields_of, trees_of}
+use Rattle.area_types.specs.Sizes.{metric}
 use Rattle.area_types.specs.declared.structs.FieldDef.{FieldDef}
 use Rattle.area_types.specs.declared.structs.StructDef.{StructDef}
 
@@ -19,15 +21,15 @@ abbrev pub structs_of : Table → List StructType
 structs_of table = map struct_of table.structs
 
 -- an area, with its structs written out as these structs say
-abbrev pub tree_over : List StructDef → Area → Tree
+abbrev pub tree_over : List StructDef → Area → Written
 tree_over structs area = tree_of (trees_of (map struct_of structs)) area
 
 -- the fields of a struct that stands after these structs
-abbrev pub fields_over : List StructDef → List FieldDef → Fields
+abbrev pub fields_over : List StructDef → List FieldDef → WrittenRow
 fields_over structs fields = fields_of (trees_of (map struct_of structs)) (map field_of fields)
 
 -- an area, with its structs written out as the table says
-abbrev pub written_out : Table → Area → Tree
+abbrev pub written_out : Table → Area → Written
 written_out table area = tree_over table.structs area
 
 -- ---- areas
@@ -49,8 +51,8 @@ is_made_of structs words (syntax.Array n element) = is_length n && is_made_of st
 is_made_of structs words (syntax.Struct k) = nat_lt k structs
 
 -- at most 65,535 bytes, and at most 32 levels of arrays and structs
-abbrev pub is_small : List IntKind → Tree → Bool
-is_small words a = nat_le (size words a) 65_535 && nat_le (levels a) 32
+abbrev pub is_small : List IntKind → Written → Bool
+is_small words a = nat_le (size (metric words) a) 65_535 && nat_le (levels a) 32
 
 -- an area of the table
 abbrev pub is_area : Table → Area → Bool
@@ -68,14 +70,18 @@ has_index_lengths (syntax.Stored held) = has_index_length held
 has_index_lengths (syntax.Array n element) = has_index_lengths element
 has_index_lengths (syntax.Struct k) = true
 
+-- numbers of structs have 32 bits
+abbrev pub is_number : ℕ → Bool
+is_number k = nat_lt k 4_294_967_296
+
 abbrev pub is_field : (structs words : ℕ) → Field → Bool
 is_field structs words f = is_made_of structs words f.area && has_index_lengths f.area
 
--- the struct has a field, is made of the structs before it and the words, and is small
+-- the struct has a field, is made of the structs before it and the words, is small, and has a number
 abbrev pub fits_after : List StructType → List IntKind → StructType → Bool
 fits_after structs words s =
     nat_lt 0 (length s.fields) && list_all (is_field (length structs) (length words)) s.fields
-    && is_small words (Parts (length structs) (fields_of (trees_of structs) s.fields))
+    && is_small words (Struct (length structs) (fields_of (trees_of structs) s.fields)) && is_number (length structs)
 
 -- each of the further structs fits after those before it
 abbrev pub fit_after : List StructType → List IntKind → List StructType → Bool

@@ -3,7 +3,7 @@ use iv_words::{Box, IntKind};
 
 /// The type of one value: a truth, a whole number, an index of a length, bits of the word of that number, or a reference.
 #[cycle(area)]
-#[derive(Debug, Drop, PartialEq, Eq)]
+#[derive(Drop, PartialEq, Eq)]
 pub enum ValueType {
     Bool,
     Int(IntKind),
@@ -14,7 +14,7 @@ pub enum ValueType {
 
 /// The type of a reference: whether it only reads, the region that it may lead to, and the area behind it.
 #[cycle(area)]
-#[derive(Debug, Drop, PartialEq, Eq)]
+#[derive(Drop, PartialEq, Eq)]
 pub struct RefType {
     pub constant: bool,
     pub region: Region,
@@ -23,7 +23,7 @@ pub struct RefType {
 
 /// The type of an area of memory: one stored value, an array of a length, or the struct of that number in a table.
 #[cycle(area)]
-#[derive(Debug, Drop, PartialEq, Eq)]
+#[derive(Drop, PartialEq, Eq)]
 pub enum Area {
     Stored(Box<ValueType>),
     Array(u32, Box<Area>),

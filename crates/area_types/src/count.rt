@@ -1,8 +1,8 @@
 //! How many cells and nodes an area of a table has.
 
 ghost use Rattle.std.specs.Prelude.{◌≡◌, IsTrue};
+ghost use Rattle.type_trees.specs.Trees.{count, nodes};
 ghost use Rattle.area_types.specs.Tables.{is_area, written_out};
-ghost use Rattle.area_types.specs.Trees.{cells, nodes};
 ghost use Rattle.area_types.specs.View.{area_of};
 
 use crate::area::Area;
@@ -12,7 +12,7 @@ use crate::table::StructTable;
 /// How many stored places an area of the table has.
 pub fn cells(area: &Area, table: &StructTable) -> u32
     requires { IsTrue (is_area table.now (area_of area.now)) }
-    ensures { result ≡ cells (written_out table.now (area_of area.now)) }
+    ensures { result ≡ count (written_out table.now (area_of area.now)) }
 {
     extent(area, table.structs.as_slice(), table.words.as_slice()).cells
 }

@@ -1,17 +1,17 @@
 //! What one walk over an area finds: how many cells, nodes, bytes and levels it has. Whatever the area, no number wraps: each
 //! stops at the greatest `u32`, far above every limit.
 
-ghost use Rattle.std.specs.Prelude.{◌≡◌, ◌≤◌, List, map, nat_le, ◌&&◌};
-ghost use Rattle.area_types.specs.Extents.{capped, extent_of, row_extent, times, with_field, enclosed};
+ghost use Rattle.std.specs.Prelude.{◌≡◌, ◌≤◌, List, nat_le, ◌&&◌};
 ghost use Rattle.iv_words.specs.Kinds.{kind_bytes};
-ghost use Rattle.area_types.specs.Sizes.{bytes, aligned};
-ghost use Rattle.area_types.specs.Syntax.{Bits};
 ghost use Rattle.iv_words.specs.declared.IntKind.{IntKind};
-ghost use Rattle.area_types.specs.Trees.{Leaf, End, Parts, tree_of, trees_of, fields_of};
-ghost use Rattle.area_types.specs.View.{type_of, area_of, field_of, struct_of};
+ghost use Rattle.type_trees.specs.Multiples.{up};
+ghost use Rattle.type_trees.specs.Trees.{End};
+ghost use Rattle.area_types.specs.Extents.{capped, row_extent, times, with_field, enclosed};
+ghost use Rattle.area_types.specs.Sizes.{bytes};
+ghost use Rattle.area_types.specs.Syntax.{Bits};
+ghost use Rattle.area_types.specs.View.{type_of};
 
 use crate::area::{Area, ValueType};
-use crate::structs::{FieldDef, StructDef};
 use iv_words::IntKind;
 
 /// The numbers of an area. `cells` counts the stored places, `nodes` arrays and structs too, and `levels` how many of these
@@ -59,9 +59,10 @@ pub(crate) fn scalar_bytes(held: &ValueType, words: &[IntKind]) -> u32
 }
 
 /// The least multiple of the alignment that is not below the offset.
-fn aligned(offset: u32, alignment: u32) -> u32
+#[tactic(auto, unfolding(type_trees::specs::Multiples::up))]
+fn up(offset: u32, alignment: u32) -> u32
     requires { 1 ≤ alignment }
-    ensures { result ≡ capped (aligned offset alignment) }
+    ensures { result ≡ capped (up offset alignment) }
 {
     offset.saturating_add((alignment - offset % alignment) % alignment)
 }
@@ -114,7 +115,7 @@ impl Extent {
         Extent {
             cells: self.cells.saturating_add(field.cells),
             nodes: self.nodes.saturating_add(field.nodes),
-            size: aligned(self.size, field.alignment).saturating_add(field.size),
+            size: up(self.size, field.alignment).saturating_add(field.size),
             alignment: self.alignment.max(field.alignment),
             levels: self.levels.max(field.levels),
         }
@@ -128,7 +129,7 @@ impl Extent {
         Extent {
             cells: self.cells,
             nodes: self.nodes.saturating_add(1),
-            size: aligned(self.size, self.alignment),
+            size: up(self.size, self.alignment),
             alignment: self.alignment,
             levels: self.levels.saturating_add(1),
         }

@@ -1,6 +1,6 @@
 //! From the shape of an area, as a text names it, to the area of a table.
 
-ghost use Rattle.std.specs.Prelude.{◌≡◌, map, length, unwrap_or, IfOk, IsTrue};
+ghost use Rattle.std.specs.Prelude.{◌≡◌, ◌≤◌, ◌<◌, map, length, unwrap_or, IfOk, IfSome, IsTrue};
 ghost use Rattle.area_types.specs.Answers.{Answers};
 ghost use Rattle.area_types.specs.Interned.{stores_no_reference, stores_values, number_of, has_lengths, has_structs, area_named, interned};
 ghost use Rattle.area_types.specs.Syntax.{Struct};
@@ -18,7 +18,8 @@ use std::alloc::Global;
 
 /// The number of the first struct of the name.
 fn number_of(structs: &[StructDef], name: &Word) -> Option<usize>
-    ensures { result ≡ number_of (map struct_of structs.now) name.now }
+    ensures value { result ≡ number_of (map struct_of structs.now) name.now }
+    ensures within { IfSome result (λ k. k < length structs.now) }
 {
     for (number, found) in structs.iter().enumerate() {
         if found.name == *name {
@@ -51,20 +52,21 @@ fn has_structs(shape: &AreaShape, structs: &[StructDef]) -> bool
     }
 }
 
-/// The struct of the name; want of memory too where its number has more than 32 bits.
-fn struct_named(structs: &[StructDef], name: &Word) -> Result<Area, Memory>
-    ensures { IfOk result (λ area. area_of area ≡ Struct (unwrap_or (number_of (map struct_of structs.now) name.now) 0)) }
+/// The struct of the name.
+fn struct_named(structs: &[StructDef], name: &Word) -> Area
+    requires { length structs.now ≤ 4_294_967_296 }
+    ensures { area_of result ≡ Struct (unwrap_or (number_of (map struct_of structs.now) name.now) 0) }
 {
-    let number = number_of(structs, name).unwrap_or(0);
-    match u32::try_from(number) {
-        Ok(number) => Ok(Area::Struct(number)),
-        Err(_) => Err(Memory),
+    match number_of(structs, name) {
+        Some(number) => Area::Struct(number as u32),
+        None => Area::Struct(0),
     }
 }
 
 /// The area of the shape, with a number in the place of each name.
 fn area_named(alloc: Global, shape: &AreaShape, structs: &[StructDef]) -> Result<Area, Memory>
-    requires { IsTrue (has_lengths (shape_of shape.now)) }
+    requires lengths { IsTrue (has_lengths (shape_of shape.now)) }
+    requires numbers { length structs.now ≤ 4_294_967_296 }
     ensures { IfOk result (λ area. area_of area ≡ area_named (map struct_of structs.now) (shape_of shape.now)) }
 {
     match shape {
@@ -73,7 +75,7 @@ fn area_named(alloc: Global, shape: &AreaShape, structs: &[StructDef]) -> Result
             let element = Box::new(alloc, area_named(alloc, element, structs)?)?;
             Ok(Area::Array(*length as u32, element))
         }
-        AreaShape::Struct(name) => struct_named(structs, name),
+        AreaShape::Struct(name) => Ok(struct_named(structs, name)),
     }
 }
 
@@ -82,7 +84,7 @@ fn area_named(alloc: Global, shape: &AreaShape, structs: &[StructDef]) -> Result
 ///
 /// Errors, tried in this order over the whole shape: `ZeroLength` where an array has the length 0 or one above 65,535,
 /// `LaterStruct` where a struct is not in the table, `TooLarge` where the area would have more than 65,535 bytes or more
-/// than 32 levels. Besides `Memory`, also where the number of a struct would have more than 32 bits.
+/// than 32 levels.
 pub fn intern(alloc: Global, text: &AreaShape, table: &StructTable) -> Result<Area, AreaFault>
     requires { IsTrue (stores_no_reference (shape_of text.now)) }
     ensures answer { Answers area_of result (interned table.now (shape_of text.now)) }

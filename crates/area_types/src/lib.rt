@@ -24,7 +24,7 @@ pub use area::{Area, RefType, ValueType};
 pub use count::{cells, nodes};
 pub use fault::AreaFault;
 pub use interning::intern;
-pub use laws::{parts_are_areas, parts_stand_in_order};
+pub use laws::parts_are_areas;
 pub use part::cell_at;
 pub use region::Region;
 pub use shape::AreaShape;

@@ -1,10 +1,10 @@
 //! One walk over an area, with its structs written out. This is the one place where each kind of area is measured.
 
 ghost use Rattle.std.specs.Prelude.{◌≡◌, ◌≤◌};
+ghost use Rattle.type_trees.specs.Trees.{Struct};
 ghost use Rattle.area_types.specs.Extents.{extent_of};
-ghost use Rattle.area_types.specs.Syntax.{Struct};
+ghost use Rattle.area_types.specs.Syntax as syntax;
 ghost use Rattle.area_types.specs.Tables.{tree_over, fields_over};
-ghost use Rattle.area_types.specs.Trees.{Parts};
 ghost use Rattle.area_types.specs.View.{area_of};
 
 use crate::area::Area;
@@ -27,7 +27,7 @@ pub(crate) fn extent(area: &Area, structs: &[StructDef], words: &[IntKind]) -> E
 
 #[cycle(measure)]
 fn struct_extent(number: u32, structs: &[StructDef], words: &[IntKind]) -> Extent
-    ensures value { result ≡ extent_of words.now (tree_over structs.now (Struct number)) }
+    ensures value { result ≡ extent_of words.now (tree_over structs.now (syntax.Struct number)) }
     ensures some { 1 ≤ result.alignment }
 {
     let number = number as usize;
@@ -40,7 +40,7 @@ fn struct_extent(number: u32, structs: &[StructDef], words: &[IntKind]) -> Exten
 /// The numbers of a struct of such fields, which is made of the structs before it.
 #[cycle(measure)]
 pub(crate) fn fields_extent(fields: &[FieldDef], earlier: &[StructDef], words: &[IntKind]) -> Extent
-    ensures value { result ≡ extent_of words.now (Parts 0 (fields_over earlier.now fields.now)) }
+    ensures value { result ≡ extent_of words.now (Struct 0 (fields_over earlier.now fields.now)) }
     ensures some { 1 ≤ result.alignment }
 {
     let mut row = Extent::empty_row();

@@ -2,10 +2,11 @@
 
 ghost use Rattle.std.specs.Prelude.{◌≡◌, ◌∷◌, IfOk, IfSome, IsTrue};
 ghost use Rattle.std.specs.Option.{option_map};
+ghost use Rattle.type_trees.specs.Trees.{Struct};
 ghost use Rattle.area_types.specs.Extents.{Finds, behind};
-ghost use Rattle.area_types.specs.Syntax.{Struct};
+ghost use Rattle.area_types.specs.Syntax as syntax;
 ghost use Rattle.area_types.specs.Tables.{tree_over, fields_over, is_area, written_out};
-ghost use Rattle.area_types.specs.Trees.{Parts, cell_at};
+ghost use Rattle.area_types.specs.Trees.{cell_at};
 ghost use Rattle.area_types.specs.View.{area_of, found_of};
 
 use crate::area::Area;
@@ -76,7 +77,7 @@ fn part_of_struct(
     step: u32,
     rest: &[u32],
 ) -> Result<Option<(u32, Area)>, Memory>
-    ensures { Finds result (tree_over structs.now (Struct number)) (step ∷ rest.now) }
+    ensures { Finds result (tree_over structs.now (syntax.Struct number)) (step ∷ rest.now) }
 {
     let number = number as usize;
     match structs.get(number) {
@@ -104,7 +105,7 @@ fn part_of_fields(
     step: u32,
     rest: &[u32],
 ) -> Result<Option<(u32, Area)>, Memory>
-    ensures { Finds result (Parts 0 (fields_over earlier.now fields.now)) (step ∷ rest.now) }
+    ensures { Finds result (Struct 0 (fields_over earlier.now fields.now)) (step ∷ rest.now) }
 {
     let step = step as usize;
     match fields.get(step) {

@@ -16,8 +16,8 @@ use std::marker::Model;
 ///
 /// Each struct has at least one field. It uses only structs before it and words of the table, and stores no reference. The
 /// lengths in it are from 1 to 65,535. It has at most 65,535 bytes on the target t32, and at most 32 levels of arrays and
-/// structs, itself included.
-#[derive(Debug, Drop, PartialEq, Eq)]
+/// structs, itself included. Its number has 32 bits.
+#[derive(Drop)]
 pub struct StructTable {
     pub structs: Seq<StructDef>,
     pub words: Seq<IntKind>,
@@ -44,7 +44,7 @@ impl Model for StructTable {
 fn words_copy(alloc: Global, words: &[IntKind]) -> Result<Seq<IntKind>, Memory>
     ensures { IfOk result (λ copy. copy ≡ words.now) }
 {
-    let mut copy = Seq::new(alloc);
+    let mut copy = Seq::with_capacity(alloc, words.len())?;
     for word in words {
         copy.push(*word)?;
     }
@@ -70,7 +70,7 @@ fn fits_after(d: &StructDef, structs: &[StructDef], words: &[IntKind]) -> bool
     if fields.len() == 0 || !are_fields(fields, structs.len(), words.len()) {
         return false;
     }
-    fields_extent(fields, structs, words).is_small()
+    fields_extent(fields, structs, words).is_small() && u32::try_from(structs.len()).is_ok()
 }
 
 impl StructTable {

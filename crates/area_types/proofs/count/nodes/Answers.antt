@@ -1,7 +1,8 @@
 use Rattle.std.proofs.Common.{map, ap, ◌∙◌, IsTrue, subst}
 use Rattle.area_types.specs.Extents.{capped}
 use Rattle.area_types.specs.Tables.{structs_of, is_table}
-use Rattle.area_types.specs.Trees.{nodes, tree_of, trees_of}
+use Rattle.type_trees.specs.Trees.{nodes}
+use Rattle.area_types.specs.Trees.{tree_of, trees_of}
 use Rattle.area_types.specs.View.{area_of, struct_of}
 use Rattle.area_types.proofs.Bounds.{nodes_exact}
 use Rattle.area_types.proofs.count.nodes.Goals as goal

@@ -1,12 +1,13 @@
-use Rattle.std.proofs.Common.{rules, ◌≡◌, ◌∙◌, map, length, IsTrue, ap, sym, subst}
+use Rattle.std.proofs.Common.{rules, ◌≡◌, ◌≤◌, arith, ◌∙◌, map, length, IsTrue, ap, sym, subst}
 use Rattle.std.specs.Prelude.{nat_le, ◌&&◌}
 use Rattle.std.proofs.lemmas.List.{length-map}
 use Rattle.area_types.specs.Interned.{has_lengths, has_structs, area_named}
-use Rattle.area_types.specs.Tables.{structs_of, written_out, is_made_of, is_small}
+use Rattle.area_types.specs.Tables.{structs_of, written_out, is_table, is_made_of, is_small}
 use Rattle.area_types.specs.Trees.{tree_of, trees_of}
 use Rattle.area_types.specs.View.{area_of, shape_of, struct_of}
 use Rattle.area_types.proofs.Extents.{small_is}
 use Rattle.area_types.proofs.Named.{made_named}
+use Rattle.area_types.proofs.Sound.{numbered_table}
 use Rattle.area_types.proofs.Truths.{also}
 use Rattle.area_types.proofs.interning.intern.Goals as goal
 
@@ -30,3 +31,10 @@ returns-then-is_small-clause-area c = λ stored.
     also (is_made_of (length table.structs) (length table.words) area) (is_small table.words (written_out table area))
     (subst (λ n. IsTrue (is_made_of n (length table.words) area)) (length-map table.structs struct_of) (subst (λ a. IsTrue (is_made_of (length (structs_of table)) (length table.words) a)) (sym named) made))
     (subst IsTrue small c.if-is_small.true)
+
+pub area_named-requires-clause-numbers : goal.area_named-requires-clause-numbers
+area_named-requires-clause-numbers c =
+    let table = c.args.table.now in
+    let is_one = subst (λ t. IsTrue (is_table (structs_of t) t.words)) c.table.view_is c.table.invariant in
+    subst (λ ss. length ss ≤ 4_294_967_296) (sym (c.as_slice-structs.ensures ∙ ap (λ t. t.structs) c.table.view_is))
+    (subst (λ n. n ≤ 4_294_967_296) (length-map table.structs struct_of) (numbered_table (structs_of table) table.words is_one))

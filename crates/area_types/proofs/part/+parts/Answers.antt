@@ -5,7 +5,8 @@ use Rattle.std.proofs.lemmas.Option.{slice_get_read, slice_get_past, slice_get-m
 use Rattle.area_types.specs.Extents.{capped, behind, capped_cell_at}
 use Rattle.area_types.specs.Syntax as syntax
 use Rattle.area_types.specs.Syntax.{Area}
-use Rattle.area_types.specs.Trees.{Parts, cells, places_in, tree_of, fields_of, trees_of}
+use Rattle.type_trees.specs.Trees.{Struct, count, count_row}
+use Rattle.area_types.specs.Trees.{tree_of, fields_of, trees_of}
 use Rattle.area_types.specs.View.{area_of, field_of, struct_of, found_of}
 use Rattle.area_types.proofs.View.{array_is}
 use Rattle.area_types.proofs.Written.{found_tree, missing_tree}
@@ -23,11 +24,11 @@ pub part_within-returns-in_ok-part-in-Array : goal.part_within-returns-in_ok-par
 part_within-returns-in_ok-part-in-Array t c =
     let a = tree_of (trees_of (map struct_of c.args.structs.now)) (area_of c.in-Array.element) in
     let whole : area_of c.args.area.now ≡ syntax.Array c.in-Array.length (area_of c.in-Array.element) = ap area_of c.in-Array.is ∙ array_is c.in-Array.length c.in-Array.element in
-    let before : c.saturating_mul-before.result ≡ capped (c.args.step * capped (cells a)) =
+    let before : c.saturating_mul-before.result ≡ capped (c.args.step * capped (count a)) =
     c.saturating_mul-before.ensures ∙ ap (λ e. capped (c.args.step * e.cells)) c.extent.ensures.value
-    ∙ ap (λ b. capped (c.args.step * capped (cells (tree_of (trees_of (map struct_of c.args.structs.now)) (area_of b))))) c.deref.ensures in
+    ∙ ap (λ b. capped (c.args.step * capped (count (tree_of (trees_of (map struct_of c.args.structs.now)) (area_of b))))) c.deref.ensures in
     c.behind.ensures ∙ ap (λ n. behind n (option_map found_of c.in_ok-part-in-Array.field-0)) before
-    ∙ ap (behind (capped (c.args.step * capped (cells a)))) (c.in_ok-part-in-Array.ensures ∙ ap (λ b. capped_cell_at (tree_of (trees_of (map struct_of c.args.structs.now)) (area_of b)) c.args.rest.now) c.deref-in-Array.ensures)
+    ∙ ap (behind (capped (c.args.step * capped (count a)))) (c.in_ok-part-in-Array.ensures ∙ ap (λ b. capped_cell_at (tree_of (trees_of (map struct_of c.args.structs.now)) (area_of b)) c.args.rest.now) c.deref-in-Array.ensures)
     ∙ many_part c.in-Array.length a c.args.step c.args.rest.now (omega arith)
     ∙ ap (λ b. capped_cell_at (tree_of (trees_of (map struct_of c.args.structs.now)) b) (c.args.step ∷ c.args.rest.now)) (sym whole)
 
@@ -35,10 +36,10 @@ pub part_of_fields-returns-in_ok-part-in-Some : goal.part_of_fields-returns-in_o
 part_of_fields-returns-in_ok-part-in-Some t c =
     let trees = trees_of (map struct_of c.args.earlier.now) in
     let found = slice_get_read c.args.fields.now (length c.args.fields.now) c.args.step c.in-Some.field.now refl c.in-Some.ensures.lookup.3.0 c.in-Some.ensures.lookup.1 in
-    let before : c.fields_extent-before.result.cells ≡ capped (length (places_in (fields_of trees (take c.args.step (map field_of c.args.fields.now))))) =
-    ap (λ e. e.cells) c.fields_extent-before.ensures.value ∙ ap (λ fs. capped (length (places_in (fields_of trees fs)))) (sym (take-map field_of c.args.step c.args.fields.now)) in
+    let before : c.fields_extent-before.result.cells ≡ capped (count_row (fields_of trees (take c.args.step (map field_of c.args.fields.now)))) =
+    ap (λ e. e.cells) c.fields_extent-before.ensures.value ∙ ap (λ fs. capped (count_row (fields_of trees fs))) (sym (take-map field_of c.args.step c.args.fields.now)) in
     c.behind.ensures ∙ ap (λ n. behind n (option_map found_of c.in_ok-part-in-Some.field-0)) before
-    ∙ ap (behind (capped (length (places_in (fields_of trees (take c.args.step (map field_of c.args.fields.now))))))) c.in_ok-part-in-Some.ensures
+    ∙ ap (behind (capped (count_row (fields_of trees (take c.args.step (map field_of c.args.fields.now)))))) c.in_ok-part-in-Some.ensures
     ∙ fields_part 0 trees (map field_of c.args.fields.now) c.args.step (field_of c.in-Some.field.now) c.args.rest.now (slice_get-map field_of c.args.fields.now c.args.step ∙ ap (option_map field_of) found)
 
 pub part_of_fields-returns-in-None : goal.part_of_fields-returns-in-None
@@ -50,7 +51,7 @@ pub part_of_struct-returns-in-Some : goal.part_of_struct-returns-in-Some
 part_of_struct-returns-in-Some t c =
     let found = slice_get_read c.args.structs.now (length c.args.structs.now) c.args.number c.in-Some.found.now refl c.in-Some.ensures.lookup.3.0 c.in-Some.ensures.lookup.1 in
     subst (λ a. IfOk c.part_of_fields.result (λ f. option_map found_of f ≡ capped_cell_at a (c.args.step ∷ c.args.rest.now)))
-    (ap (λ fs. Parts c.args.number (fields_of (trees_of (map struct_of (take c.args.number c.args.structs.now))) (map field_of fs))) c.as_slice.ensures
+    (ap (λ fs. Struct c.args.number (fields_of (trees_of (map struct_of (take c.args.number c.args.structs.now))) (map field_of fs))) c.as_slice.ensures
     ∙ sym (found_tree c.args.structs.now c.args.number c.in-Some.found.now found))
     c.part_of_fields.ensures
 

@@ -94,6 +94,10 @@ lone_operand n operand ts x rest is none = ap (λ o. and_then o (climb n 0 opera
 pub record Climbs (wanted : Outcome Token Expr) (operand : Reader Token Expr) (from : List Token) (left at : ℕ) (x : Expr) (rest : List Token) : Type 0 where
   pub same : climb left at operand from x rest ≡ wanted
 
+pub climbs_start : (level left : ℕ) (operand : Reader Token Expr) (from : List Token) (x : Expr) (rest : List Token) → left ≡ level
+    → Climbs (climb level 0 operand from x rest) operand from left 0 x rest
+climbs_start level left operand from x rest e = record { same = ap (λ n. climb n 0 operand from x rest) e }
+
 module _ {wanted : Outcome Token Expr} {operand : Reader Token Expr} {from : List Token} {left at : ℕ} {x : Expr} {rest : List Token} (c : Climbs wanted operand from left at x rest) where
   one_level : (k : ℕ) (o : Outcome Token Expr) → left ≡ suc k → linked at operand from x rest ≡ o → and_then o (climb k (suc at) operand from) ≡ wanted
   unfolding climb
@@ -101,6 +105,10 @@ module _ {wanted : Outcome Token Expr} {operand : Reader Token Expr} {from : Lis
 
   pub climbs_after : (k next : ℕ) (y : Expr) (after : List Token) → left ≡ suc k → next ≡ suc at → linked at operand from x rest ≡ Done y after → Climbs wanted operand from k next y after
   climbs_after k next y after e f is = record { same = ap (λ n. climb k n operand from y after) f ∙ one_level k (Done y after) e is }
+
+  -- a level without an operator
+  pub climbs_past : (k next : ℕ) → left ≡ suc k → next ≡ suc at → starts (is_operator at) rest ≡ false → Climbs wanted operand from k next x rest
+  climbs_past k next e f none = climbs_after k next x rest e f (level_without_links at operand from x rest none)
 
   pub climbs_end : left ≡ 0 → wanted ≡ Done x rest
   unfolding climb

@@ -106,16 +106,16 @@ module _ {limit e : ℕ} (low : e ≤ limit) (expr : Reader Token Expr) (good : 
       (λ x b r. absurd ((starts_new x).nonempty b r))
 
 comma_at : (d : ℕ) → (s : Span) × (row : Row Token) × Terminal d (symbol mark.Comma) s row
-comma_at d = let m : rows.Mark Token = record { token = marked mark.Comma nowhere; depth = d } in (nowhere, m ∷ [], (m, refl, refl, refl))
+comma_at d = let m : rows.Entry Token = record { token = marked mark.Comma nowhere; depth = d } in (nowhere, m ∷ [], (m, refl, refl, refl))
 
 number_at : (d : ℕ) → (n : ℕ) × (row : Row Token) × Terminal d number_of n row
-number_at d = let m : rows.Mark Token = record { token = token (kind.Number 0) nowhere; depth = d } in (0, m ∷ [], (m, refl, refl, refl))
+number_at d = let m : rows.Entry Token = record { token = token (kind.Number 0) nowhere; depth = d } in (0, m ∷ [], (m, refl, refl, refl))
 
 word_at : (d : ℕ) → (w : List ℕ) × (row : Row Token) × Terminal d word_of w row
-word_at d = let m : rows.Mark Token = record { token = token (kind.Name []) nowhere; depth = d } in ([], m ∷ [], (m, refl, refl, refl))
+word_at d = let m : rows.Entry Token = record { token = token (kind.Name []) nowhere; depth = d } in ([], m ∷ [], (m, refl, refl, refl))
 
 name_at : (d : ℕ) → (x : Name) × (row : Row Token) × Terminal d name_of x row
-name_at d = let m : rows.Mark Token = record { token = token (kind.Name []) nowhere; depth = d } in (record { text = []; span = nowhere }, m ∷ [], (m, refl, refl, refl))
+name_at d = let m : rows.Entry Token = record { token = token (kind.Name []) nowhere; depth = d } in (record { text = []; span = nowhere }, m ∷ [], (m, refl, refl, refl))
 
 some_beside : {A : Type 0} (d : ℕ) (First : Language Token A) → (a : A) × (row : Row Token) × First a row → (p : A × Expr) × (row : Row Token) × Beside d First p row
 some_beside d First (a, f, first) =

@@ -68,27 +68,27 @@ module _ (d : ℕ) where
 
 pub a_mark : (d : ℕ) (a : Mark) → (s : Span) × (row : Row Token) × Terminal d (symbol a) s row
 a_mark d a =
-    let m : rows.Mark Token = record { token = marked a nowhere; depth = d } in
+    let m : rows.Entry Token = record { token = marked a nowhere; depth = d } in
     (nowhere, m ∷ [], (m, refl, refl, symbol_some a (marked a nowhere) (same_mark_self a)))
 
 pub a_key : (d : ℕ) (a : Key) → (s : Span) × (row : Row Token) × Terminal d (keyword a) s row
 a_key d a =
-    let m : rows.Mark Token = record { token = keyed a nowhere; depth = d } in
+    let m : rows.Entry Token = record { token = keyed a nowhere; depth = d } in
     (nowhere, m ∷ [], (m, refl, refl, keyword_some a (keyed a nowhere) (same_key_self a)))
 
 pub a_number : (d : ℕ) → (n : ℕ) × (row : Row Token) × Terminal d number_of n row
 a_number d =
-    let m : rows.Mark Token = record { token = token (kind.Number 0) nowhere; depth = d } in
+    let m : rows.Entry Token = record { token = token (kind.Number 0) nowhere; depth = d } in
     (0, m ∷ [], (m, refl, refl, refl))
 
 pub a_name : (d : ℕ) → (n : Name) × (row : Row Token) × Terminal d name_of n row
 a_name d =
-    let m : rows.Mark Token = record { token = token (kind.Name []) nowhere; depth = d } in
+    let m : rows.Entry Token = record { token = token (kind.Name []) nowhere; depth = d } in
     (_, m ∷ [], (m, refl, refl, refl))
 
 pub a_width : (d : ℕ) → (w : ℕ × Bool) × (row : Row Token) × Terminal d width_of w row
 a_width d =
-    let m : rows.Mark Token = record { token = keyed key.KwBool nowhere; depth = d } in
+    let m : rows.Entry Token = record { token = keyed key.KwBool nowhere; depth = d } in
     ((1, true), m ∷ [], (m, refl, refl, refl))
 
 -- ---- before other tokens

@@ -1,10 +1,7 @@
-ghost use Rattle.std.specs.Prelude.{◌≡◌, IfOk};
-
-use iv_words::{Box, Copied, IntKind, Memory, Name, Seq, Span, Word};
-use std::alloc::Global;
+use iv_words::{Box, IntKind, Name, Seq, Span, Word};
 
 /// An operator before its operand: `-`, `!`, `~` or `*`, in this order.
-#[derive(Clone, Copy, Debug, Drop, PartialEq, Eq)]
+#[derive(Clone, Copy, Drop)]
 pub enum PrefixOp {
     Neg,
     Not,
@@ -14,7 +11,7 @@ pub enum PrefixOp {
 
 /// An operator between two operands, from the loosest level to the tightest:
 /// `||`; `&&`; `|`; `^`; `&`; `== !=`; `< <= > >=`; `<< >>`; `+ - +% -%`; `* / % *%`.
-#[derive(Clone, Copy, Debug, Drop, PartialEq, Eq)]
+#[derive(Clone, Copy, Drop)]
 pub enum BinOp {
     OrElse,
     AndAlso,
@@ -41,7 +38,7 @@ pub enum BinOp {
 
 /// An expression and where it stands, from its first token to its last, parentheses around it aside.
 #[cycle(expr)]
-#[derive(Debug, Drop, PartialEq, Eq)]
+#[derive(Drop)]
 pub struct Expr {
     pub kind: ExprKind,
     pub span: Span,
@@ -53,7 +50,7 @@ pub struct Expr {
 /// operand with the operators of one level that follow it, each with its right operand, and stands for the left-nested
 /// tree; a `Postfix` is an operand with the fields and indices that follow it. `Cond` is `a ? b : c`.
 #[cycle(expr)]
-#[derive(Debug, Drop, PartialEq, Eq)]
+#[derive(Drop)]
 pub enum ExprKind {
     Lit(i128),
     Truth(bool),
@@ -73,7 +70,7 @@ pub enum ExprKind {
 
 /// An operator of a chain, where it stands, and its right operand.
 #[cycle(expr)]
-#[derive(Debug, Drop, PartialEq, Eq)]
+#[derive(Drop)]
 pub struct Link {
     pub op: BinOp,
     pub at: Span,
@@ -82,134 +79,8 @@ pub struct Link {
 
 /// A part of what stands before it: a field, or an element by its index, with the place from `[` to `]`.
 #[cycle(expr)]
-#[derive(Debug, Drop, PartialEq, Eq)]
+#[derive(Drop)]
 pub enum Step {
     Field(Name),
     Index(Box<Expr>, Span),
-}
-
-impl Expr {
-    /// An expression that equals this one.
-    #[cycle(copies)]
-    pub fn copy(&self, alloc: Global) -> Result<Expr, Memory>
-        ensures { IfOk result (λ t. t ≡ self.now) }
-    {
-        Ok(Expr {
-            kind: self.kind.copy(alloc)?,
-            span: self.span,
-        })
-    }
-}
-
-impl ExprKind {
-    /// A form that equals this one.
-    #[cycle(copies)]
-    pub fn copy(&self, alloc: Global) -> Result<ExprKind, Memory>
-        ensures { IfOk result (λ t. t ≡ self.now) }
-    {
-        Ok(match self {
-            ExprKind::Lit(value) => ExprKind::Lit(*value),
-            ExprKind::Truth(value) => ExprKind::Truth(*value),
-            ExprKind::Outcome => ExprKind::Outcome,
-            ExprKind::Var(name) => ExprKind::Var(name.copy(alloc)?),
-            ExprKind::Cast(kind, e) => ExprKind::Cast(*kind, copied_box(e, alloc)?),
-            ExprKind::ToIx(length, e) => ExprKind::ToIx(*length, copied_box(e, alloc)?),
-            ExprKind::WrapIx(length, e) => ExprKind::WrapIx(*length, copied_box(e, alloc)?),
-            ExprKind::MakeBits(name, e) => {
-                ExprKind::MakeBits(name.copy(alloc)?, copied_box(e, alloc)?)
-            }
-            ExprKind::Raw(e) => ExprKind::Raw(copied_box(e, alloc)?),
-            ExprKind::Set(e, field, value) => ExprKind::Set(
-                copied_box(e, alloc)?,
-                field.copy(alloc)?,
-                copied_box(value, alloc)?,
-            ),
-            ExprKind::Prefix(op, e) => ExprKind::Prefix(*op, copied_box(e, alloc)?),
-            ExprKind::Chain(first, links) => {
-                ExprKind::Chain(copied_box(first, alloc)?, copied_links(links, alloc)?)
-            }
-            ExprKind::Postfix(base, steps) => {
-                ExprKind::Postfix(copied_box(base, alloc)?, copied_steps(steps, alloc)?)
-            }
-            ExprKind::Cond(test, first, second) => ExprKind::Cond(
-                copied_box(test, alloc)?,
-                copied_box(first, alloc)?,
-                copied_box(second, alloc)?,
-            ),
-        })
-    }
-}
-
-impl Link {
-    /// A link that equals this one.
-    #[cycle(copies)]
-    pub fn copy(&self, alloc: Global) -> Result<Link, Memory>
-        ensures { IfOk result (λ t. t ≡ self.now) }
-    {
-        Ok(Link {
-            op: self.op,
-            at: self.at,
-            right: self.right.copy(alloc)?,
-        })
-    }
-}
-
-impl Step {
-    /// A step that equals this one.
-    #[cycle(copies)]
-    pub fn copy(&self, alloc: Global) -> Result<Step, Memory>
-        ensures { IfOk result (λ t. t ≡ self.now) }
-    {
-        Ok(match self {
-            Step::Field(name) => Step::Field(name.copy(alloc)?),
-            Step::Index(index, span) => Step::Index(copied_box(index, alloc)?, *span),
-        })
-    }
-}
-
-#[cycle(copies)]
-fn copied_box(e: &Box<Expr>, alloc: Global) -> Result<Box<Expr>, Memory>
-    ensures { IfOk result (λ c. c ≡ e.now) }
-{
-    Box::new(alloc, e.get().copy(alloc)?)
-}
-
-#[cycle(copies)]
-fn copied_links(links: &Seq<Link>, alloc: Global) -> Result<Seq<Link>, Memory>
-    ensures { IfOk result (λ c. c ≡ links.now) }
-{
-    let mut items = Seq::new(alloc);
-    for link in links.iter() {
-        items.push(link.copy(alloc)?)?;
-    }
-    Ok(items)
-}
-
-#[cycle(copies)]
-fn copied_steps(steps: &Seq<Step>, alloc: Global) -> Result<Seq<Step>, Memory>
-    ensures { IfOk result (λ c. c ≡ steps.now) }
-{
-    let mut items = Seq::new(alloc);
-    for step in steps.iter() {
-        items.push(step.copy(alloc)?)?;
-    }
-    Ok(items)
-}
-
-impl Copied for Expr {
-    fn copied(&self, alloc: Global) -> Result<Expr, Memory> {
-        self.copy(alloc)
-    }
-}
-
-impl Copied for Link {
-    fn copied(&self, alloc: Global) -> Result<Link, Memory> {
-        self.copy(alloc)
-    }
-}
-
-impl Copied for Step {
-    fn copied(&self, alloc: Global) -> Result<Step, Memory> {
-        self.copy(alloc)
-    }
 }

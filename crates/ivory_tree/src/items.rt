@@ -1,14 +1,11 @@
-ghost use Rattle.std.specs.Prelude.{◌≡◌, IfOk};
-
 use crate::expr::Expr;
 use crate::inits::InitText;
 use crate::stmt::Block;
 use crate::types::{AreaText, TypeText};
-use iv_words::{Copied, IntKind, Memory, Name, Seq, Span};
-use std::alloc::Global;
+use iv_words::{IntKind, Name, Seq, Span};
 
 /// A field of bit data with its width in bits; `truth` where it is declared as `bool`, of one bit.
-#[derive(Debug, Drop, PartialEq, Eq)]
+#[derive(Drop)]
 pub struct BitField {
     pub name: Name,
     pub width: u64,
@@ -17,7 +14,7 @@ pub struct BitField {
 }
 
 /// `bitdata NAME : WORD { .. }` with its fields in order, the first in the lowest bits.
-#[derive(Debug, Drop, PartialEq, Eq)]
+#[derive(Drop)]
 pub struct BitsItem {
     pub name: Name,
     pub word: IntKind,
@@ -26,7 +23,7 @@ pub struct BitsItem {
 }
 
 /// A field of a struct, from its name to its `;`.
-#[derive(Debug, Drop, PartialEq, Eq)]
+#[derive(Drop)]
 pub struct AreaField {
     pub name: Name,
     pub area: AreaText,
@@ -34,7 +31,7 @@ pub struct AreaField {
 }
 
 /// `struct NAME { .. }` with its fields in order.
-#[derive(Debug, Drop, PartialEq, Eq)]
+#[derive(Drop)]
 pub struct StructItem {
     pub name: Name,
     pub fields: Seq<AreaField>,
@@ -42,7 +39,7 @@ pub struct StructItem {
 }
 
 /// `area NAME : AREA = INIT;`, with or without `const` before it and an initializer.
-#[derive(Debug, Drop, PartialEq, Eq)]
+#[derive(Drop)]
 pub struct AreaItem {
     pub name: Name,
     pub constant: bool,
@@ -52,7 +49,7 @@ pub struct AreaItem {
 }
 
 /// A parameter with its type.
-#[derive(Debug, Drop, PartialEq, Eq)]
+#[derive(Drop)]
 pub struct Param {
     pub name: Name,
     pub ty: TypeText,
@@ -60,7 +57,7 @@ pub struct Param {
 }
 
 /// `NAME(PARAMS) -> RESULT`. That of an import has the place of its item, from `import` to `;`.
-#[derive(Debug, Drop, PartialEq, Eq)]
+#[derive(Drop)]
 pub struct Header {
     pub name: Name,
     pub params: Seq<Param>,
@@ -69,7 +66,7 @@ pub struct Header {
 }
 
 /// `requires(COND)`, where `before`, or `ensures(COND)`.
-#[derive(Debug, Drop, PartialEq, Eq)]
+#[derive(Drop)]
 pub struct Contract {
     pub before: bool,
     pub cond: Expr,
@@ -77,7 +74,7 @@ pub struct Contract {
 }
 
 /// A procedure with its contracts and its body; `exported` where it is written with `export`.
-#[derive(Debug, Drop, PartialEq, Eq)]
+#[derive(Drop)]
 pub struct ProcItem {
     pub exported: bool,
     pub header: Header,
@@ -87,7 +84,7 @@ pub struct ProcItem {
 }
 
 /// An item of a module.
-#[derive(Debug, Drop, PartialEq, Eq)]
+#[derive(Drop)]
 pub enum Item {
     Bits(BitsItem),
     Struct(StructItem),
@@ -97,197 +94,9 @@ pub enum Item {
 }
 
 /// A module: its name and its items in order.
-#[derive(Debug, Drop, PartialEq, Eq)]
+#[derive(Drop)]
 pub struct Module {
     pub name: Name,
     pub items: Seq<Item>,
     pub span: Span,
-}
-
-impl BitField {
-    /// A field that equals this one.
-    pub fn copy(&self, alloc: Global) -> Result<BitField, Memory>
-        ensures { IfOk result (λ t. t ≡ self.now) }
-    {
-        Ok(BitField {
-            name: self.name.copy(alloc)?,
-            width: self.width,
-            truth: self.truth,
-            span: self.span,
-        })
-    }
-}
-
-impl BitsItem {
-    /// An item that equals this one.
-    pub fn copy(&self, alloc: Global) -> Result<BitsItem, Memory>
-        ensures { IfOk result (λ t. t ≡ self.now) }
-    {
-        Ok(BitsItem {
-            name: self.name.copy(alloc)?,
-            word: self.word,
-            fields: self.fields.copy(alloc)?,
-            span: self.span,
-        })
-    }
-}
-
-impl AreaField {
-    /// A field that equals this one.
-    pub fn copy(&self, alloc: Global) -> Result<AreaField, Memory>
-        ensures { IfOk result (λ t. t ≡ self.now) }
-    {
-        Ok(AreaField {
-            name: self.name.copy(alloc)?,
-            area: self.area.copy(alloc)?,
-            span: self.span,
-        })
-    }
-}
-
-impl StructItem {
-    /// An item that equals this one.
-    pub fn copy(&self, alloc: Global) -> Result<StructItem, Memory>
-        ensures { IfOk result (λ t. t ≡ self.now) }
-    {
-        Ok(StructItem {
-            name: self.name.copy(alloc)?,
-            fields: self.fields.copy(alloc)?,
-            span: self.span,
-        })
-    }
-}
-
-impl AreaItem {
-    /// An item that equals this one.
-    pub fn copy(&self, alloc: Global) -> Result<AreaItem, Memory>
-        ensures { IfOk result (λ t. t ≡ self.now) }
-    {
-        Ok(AreaItem {
-            name: self.name.copy(alloc)?,
-            constant: self.constant,
-            area: self.area.copy(alloc)?,
-            init: Copied::copied(&self.init, alloc)?,
-            span: self.span,
-        })
-    }
-}
-
-impl Param {
-    /// A parameter that equals this one.
-    pub fn copy(&self, alloc: Global) -> Result<Param, Memory>
-        ensures { IfOk result (λ t. t ≡ self.now) }
-    {
-        Ok(Param {
-            name: self.name.copy(alloc)?,
-            ty: self.ty.copy(alloc)?,
-            span: self.span,
-        })
-    }
-}
-
-impl Header {
-    /// A header that equals this one.
-    pub fn copy(&self, alloc: Global) -> Result<Header, Memory>
-        ensures { IfOk result (λ t. t ≡ self.now) }
-    {
-        Ok(Header {
-            name: self.name.copy(alloc)?,
-            params: self.params.copy(alloc)?,
-            result: Copied::copied(&self.result, alloc)?,
-            span: self.span,
-        })
-    }
-}
-
-impl Contract {
-    /// A contract that equals this one.
-    pub fn copy(&self, alloc: Global) -> Result<Contract, Memory>
-        ensures { IfOk result (λ t. t ≡ self.now) }
-    {
-        Ok(Contract {
-            before: self.before,
-            cond: self.cond.copy(alloc)?,
-            span: self.span,
-        })
-    }
-}
-
-impl ProcItem {
-    /// A procedure that equals this one.
-    pub fn copy(&self, alloc: Global) -> Result<ProcItem, Memory>
-        ensures { IfOk result (λ t. t ≡ self.now) }
-    {
-        Ok(ProcItem {
-            exported: self.exported,
-            header: self.header.copy(alloc)?,
-            contracts: self.contracts.copy(alloc)?,
-            body: self.body.copy(alloc)?,
-            span: self.span,
-        })
-    }
-}
-
-impl Item {
-    /// An item that equals this one.
-    pub fn copy(&self, alloc: Global) -> Result<Item, Memory>
-        ensures { IfOk result (λ t. t ≡ self.now) }
-    {
-        Ok(match self {
-            Item::Bits(item) => Item::Bits(item.copy(alloc)?),
-            Item::Struct(item) => Item::Struct(item.copy(alloc)?),
-            Item::Area(item) => Item::Area(item.copy(alloc)?),
-            Item::Import(header) => Item::Import(header.copy(alloc)?),
-            Item::Proc(item) => Item::Proc(item.copy(alloc)?),
-        })
-    }
-}
-
-impl Module {
-    /// A module that equals this one.
-    pub fn copy(&self, alloc: Global) -> Result<Module, Memory>
-        ensures { IfOk result (λ t. t ≡ self.now) }
-    {
-        Ok(Module {
-            name: self.name.copy(alloc)?,
-            items: self.items.copy(alloc)?,
-            span: self.span,
-        })
-    }
-}
-
-impl Copied for BitField {
-    fn copied(&self, alloc: Global) -> Result<BitField, Memory> {
-        self.copy(alloc)
-    }
-}
-
-impl Copied for AreaField {
-    fn copied(&self, alloc: Global) -> Result<AreaField, Memory> {
-        self.copy(alloc)
-    }
-}
-
-impl Copied for Param {
-    fn copied(&self, alloc: Global) -> Result<Param, Memory> {
-        self.copy(alloc)
-    }
-}
-
-impl Copied for Contract {
-    fn copied(&self, alloc: Global) -> Result<Contract, Memory> {
-        self.copy(alloc)
-    }
-}
-
-impl Copied for Item {
-    fn copied(&self, alloc: Global) -> Result<Item, Memory> {
-        self.copy(alloc)
-    }
-}
-
-impl Copied for Module {
-    fn copied(&self, alloc: Global) -> Result<Module, Memory> {
-        self.copy(alloc)
-    }
 }

@@ -1,5 +1,5 @@
 //! The syntax trees of modules: items, types, areas, contracts, statements and expressions, each with its place in the
-//! text. Trees are compared and copied; what a tree says is its abstract syntax.
+//! text. A parser makes a tree and whoever reads it borrows it; what it says is its abstract syntax.
 #![tactic(auto)]
 
 mod expr;
@@ -7,8 +7,6 @@ mod inits;
 mod items;
 pub mod laws;
 mod stmt;
-#[cfg(test)]
-mod tests;
 mod types;
 
 pub use expr::{BinOp, Expr, ExprKind, Link, PrefixOp, Step};

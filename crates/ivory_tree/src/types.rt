@@ -1,30 +1,15 @@
-ghost use Rattle.std.specs.Prelude.{◌≡◌, IfOk};
-
-use iv_words::{Box, Copied, IntKind, Memory, Span, Word};
-use std::alloc::Global;
+use iv_words::{Box, IntKind, Span, Word};
 
 /// Where the area of a reference lives: in the module, or in a region that a procedure has a name for.
-#[derive(Debug, Drop, PartialEq, Eq)]
+#[derive(Drop)]
 pub enum RegionText {
     Global,
     Named(Word),
 }
 
-impl RegionText {
-    /// A region that equals this one.
-    pub fn copy(&self, alloc: Global) -> Result<RegionText, Memory>
-        ensures { IfOk result (λ t. t ≡ self.now) }
-    {
-        Ok(match self {
-            RegionText::Global => RegionText::Global,
-            RegionText::Named(name) => RegionText::Named(name.copy(alloc)?),
-        })
-    }
-}
-
 /// A type as it is written, and where.
 #[cycle(text)]
-#[derive(Debug, Drop, PartialEq, Eq)]
+#[derive(Drop)]
 pub struct TypeText {
     pub kind: TypeKind,
     pub span: Span,
@@ -32,7 +17,7 @@ pub struct TypeText {
 
 /// The forms of a type: `bool`, a whole number, an index `ix(N)`, bit data by its name, or a reference.
 #[cycle(text)]
-#[derive(Debug, Drop, PartialEq, Eq)]
+#[derive(Drop)]
 pub enum TypeKind {
     Bool,
     Int(IntKind),
@@ -43,7 +28,7 @@ pub enum TypeKind {
 
 /// A reference to an area of a region; `constant` where it is written with `const`, so that nothing is stored through it.
 #[cycle(text)]
-#[derive(Debug, Drop, PartialEq, Eq)]
+#[derive(Drop)]
 pub struct RefText {
     pub constant: bool,
     pub region: RegionText,
@@ -52,7 +37,7 @@ pub struct RefText {
 
 /// The type of a memory area as it is written, and where.
 #[cycle(text)]
-#[derive(Debug, Drop, PartialEq, Eq)]
+#[derive(Drop)]
 pub struct AreaText {
     pub kind: AreaKind,
     pub span: Span,
@@ -60,93 +45,9 @@ pub struct AreaText {
 
 /// The forms of an area: one stored value, an array with its length, or a struct by its name.
 #[cycle(text)]
-#[derive(Debug, Drop, PartialEq, Eq)]
+#[derive(Drop)]
 pub enum AreaKind {
     Stored(Box<TypeText>),
     Array(u64, Box<AreaText>),
     Struct(Word),
-}
-
-impl TypeText {
-    /// A type that equals this one.
-    #[cycle(copies)]
-    pub fn copy(&self, alloc: Global) -> Result<TypeText, Memory>
-        ensures { IfOk result (λ t. t ≡ self.now) }
-    {
-        Ok(TypeText {
-            kind: self.kind.copy(alloc)?,
-            span: self.span,
-        })
-    }
-}
-
-impl TypeKind {
-    /// A form that equals this one.
-    #[cycle(copies)]
-    pub fn copy(&self, alloc: Global) -> Result<TypeKind, Memory>
-        ensures { IfOk result (λ t. t ≡ self.now) }
-    {
-        Ok(match self {
-            TypeKind::Bool => TypeKind::Bool,
-            TypeKind::Int(kind) => TypeKind::Int(*kind),
-            TypeKind::Ix(length) => TypeKind::Ix(*length),
-            TypeKind::Bits(name) => TypeKind::Bits(name.copy(alloc)?),
-            TypeKind::Ref(reference) => TypeKind::Ref(reference.copy(alloc)?),
-        })
-    }
-}
-
-impl RefText {
-    /// A reference that equals this one.
-    #[cycle(copies)]
-    pub fn copy(&self, alloc: Global) -> Result<RefText, Memory>
-        ensures { IfOk result (λ t. t ≡ self.now) }
-    {
-        Ok(RefText {
-            constant: self.constant,
-            region: self.region.copy(alloc)?,
-            area: self.area.copy(alloc)?,
-        })
-    }
-}
-
-impl AreaText {
-    /// An area that equals this one.
-    #[cycle(copies)]
-    pub fn copy(&self, alloc: Global) -> Result<AreaText, Memory>
-        ensures { IfOk result (λ t. t ≡ self.now) }
-    {
-        Ok(AreaText {
-            kind: self.kind.copy(alloc)?,
-            span: self.span,
-        })
-    }
-}
-
-impl AreaKind {
-    /// A form that equals this one.
-    #[cycle(copies)]
-    pub fn copy(&self, alloc: Global) -> Result<AreaKind, Memory>
-        ensures { IfOk result (λ t. t ≡ self.now) }
-    {
-        Ok(match self {
-            AreaKind::Stored(ty) => AreaKind::Stored(Box::new(alloc, ty.copy(alloc)?)?),
-            AreaKind::Array(length, area) => {
-                AreaKind::Array(*length, Box::new(alloc, area.copy(alloc)?)?)
-            }
-            AreaKind::Struct(name) => AreaKind::Struct(name.copy(alloc)?),
-        })
-    }
-}
-
-impl Copied for TypeText {
-    fn copied(&self, alloc: Global) -> Result<TypeText, Memory> {
-        self.copy(alloc)
-    }
-}
-
-impl Copied for AreaText {
-    fn copied(&self, alloc: Global) -> Result<AreaText, Memory> {
-        self.copy(alloc)
-    }
 }

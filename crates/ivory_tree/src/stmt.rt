@@ -4,7 +4,6 @@ use crate::types::AreaText;
 use iv_words::{Name, Seq, Span};
 
 /// A call of an import or of an earlier procedure, with its arguments, from the name to the `)`.
-#[derive(Drop)]
 pub struct CallText {
     pub name: Name,
     pub args: Seq<Expr>,
@@ -13,7 +12,6 @@ pub struct CallText {
 
 /// Statements in braces, with the place of these. The block of an `else if` has that one statement and its place.
 #[cycle(stmt)]
-#[derive(Drop)]
 pub struct Block {
     pub stmts: Seq<Stmt>,
     pub span: Span,
@@ -21,7 +19,6 @@ pub struct Block {
 
 /// A statement and where it stands.
 #[cycle(stmt)]
-#[derive(Drop)]
 pub struct Stmt {
     pub kind: StmtKind,
     pub span: Span,
@@ -34,7 +31,6 @@ pub struct Stmt {
 /// name of its index, the number N of its `ix(N)` and, where it has one, its bound. `NoAlloc`, `NoBreak` and `NoReturn` are
 /// the blocks that take a permission away.
 #[cycle(stmt)]
-#[derive(Drop)]
 pub enum StmtKind {
     Let(Name, Expr),
     LetCall(Name, CallText),
@@ -53,4 +49,44 @@ pub enum StmtKind {
     NoAlloc(Block),
     NoBreak(Block),
     NoReturn(Block),
+}
+
+// Each tree is dropped by a function of this crate: one that is derived would be proved again in each crate that drops a tree.
+
+impl Drop for CallText {
+    fn drop(self) {
+        let CallText {
+            name: _,
+            args: _,
+            span: _,
+        } = self;
+    }
+}
+
+impl Drop for Block {
+    #[cycle(drops)]
+    fn drop(self) {
+        let Block { stmts: _, span: _ } = self;
+    }
+}
+
+impl Drop for Stmt {
+    #[cycle(drops)]
+    fn drop(self) {
+        let Stmt { kind: _, span: _ } = self;
+    }
+}
+
+impl Drop for StmtKind {
+    #[cycle(drops)]
+    fn drop(self) {
+        match self {
+            StmtKind::Let(_, _) | StmtKind::LetCall(_, _) | StmtKind::Alloc(_, _, _) => {}
+            StmtKind::Store(_, _) | StmtKind::Copy(_, _) | StmtKind::Call(_) => {}
+            StmtKind::If(_, _, _) | StmtKind::Map(_, _, _) | StmtKind::Forever(_) => {}
+            StmtKind::Upto(_, _, _, _) | StmtKind::Downto(_, _, _, _) => {}
+            StmtKind::Break | StmtKind::Return(_) | StmtKind::Assert(_) => {}
+            StmtKind::NoAlloc(_) | StmtKind::NoBreak(_) | StmtKind::NoReturn(_) => {}
+        }
+    }
 }

@@ -7,7 +7,7 @@ use std::marker::Model;
 use std::ops::Deref;
 
 /// A box that contracts see as the value in it. A `std` box shows its pointer too, so that no copy would equal it.
-#[derive(Debug, Drop)]
+#[derive(Debug)]
 pub struct Box<T> {
     inner: std::boxed::Box<T>,
 }
@@ -33,6 +33,12 @@ impl<T> Box<T> {
     {
         let Box { inner } = self;
         std::boxed::Box::into_inner(inner)
+    }
+}
+
+impl<T: Drop> Drop for Box<T> {
+    fn drop(self) {
+        let Box { inner: _ } = self;
     }
 }
 

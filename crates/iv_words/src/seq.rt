@@ -9,7 +9,7 @@ use std::marker::Model;
 use std::ops::DerefSlice;
 
 /// A list of `T`. Contracts see a `Seq` as the list of its elements.
-#[derive(Debug, Drop)]
+#[derive(Debug)]
 pub struct Seq<T> {
     items: Vec<T>,
 }
@@ -85,6 +85,12 @@ impl<T> Seq<T> {
         ensures { MatchOption result ((self.old ≡ []) × (self.new ≡ [])) (λ last. self.old ≡ self.new ++ last ∷ []) }
     {
         self.items.pop()
+    }
+}
+
+impl<T: Drop> Drop for Seq<T> {
+    fn drop(self) {
+        let Seq { items: _ } = self;
     }
 }
 

@@ -41,7 +41,7 @@ pub enum BinOp {
 
 /// An expression and where it stands, from its first token to its last, parentheses around it aside.
 #[cycle(expr)]
-#[derive(Drop, PartialEq, Eq)]
+#[derive(PartialEq, Eq)]
 pub struct Expr {
     pub kind: ExprKind,
     pub span: Span,
@@ -53,7 +53,7 @@ pub struct Expr {
 /// operand with the operators of one level that follow it, each with its right operand, and stands for the left-nested
 /// tree; a `Postfix` is an operand with the fields and indices that follow it. `Cond` is `a ? b : c`.
 #[cycle(expr)]
-#[derive(Drop, PartialEq, Eq)]
+#[derive(PartialEq, Eq)]
 pub enum ExprKind {
     Lit(i128),
     Truth(bool),
@@ -73,7 +73,7 @@ pub enum ExprKind {
 
 /// An operator of a chain, where it stands, and its right operand.
 #[cycle(expr)]
-#[derive(Drop, PartialEq, Eq)]
+#[derive(PartialEq, Eq)]
 pub struct Link {
     pub op: BinOp,
     pub at: Span,
@@ -82,7 +82,7 @@ pub struct Link {
 
 /// A part of what stands before it: a field, or an element by its index, with the place from `[` to `]`.
 #[cycle(expr)]
-#[derive(Drop, PartialEq, Eq)]
+#[derive(PartialEq, Eq)]
 pub enum Step {
     Field(Name),
     Index(Box<Expr>, Span),
@@ -211,5 +211,47 @@ impl Copied for Link {
 impl Copied for Step {
     fn copied(&self, alloc: Global) -> Result<Step, Memory> {
         self.copy(alloc)
+    }
+}
+
+// Each tree is dropped by a function of this crate: one that is derived would be proved again in each crate that drops a tree.
+
+impl Drop for Expr {
+    #[cycle(drops)]
+    fn drop(self) {
+        let Expr { kind: _, span: _ } = self;
+    }
+}
+
+impl Drop for ExprKind {
+    #[cycle(drops)]
+    fn drop(self) {
+        match self {
+            ExprKind::Lit(_) | ExprKind::Truth(_) | ExprKind::Outcome | ExprKind::Var(_) => {}
+            ExprKind::Cast(_, _) | ExprKind::ToIx(_, _) | ExprKind::WrapIx(_, _) => {}
+            ExprKind::MakeBits(_, _) | ExprKind::Raw(_) | ExprKind::Set(_, _, _) => {}
+            ExprKind::Prefix(_, _) | ExprKind::Chain(_, _) | ExprKind::Postfix(_, _) => {}
+            ExprKind::Cond(_, _, _) => {}
+        }
+    }
+}
+
+impl Drop for Link {
+    #[cycle(drops)]
+    fn drop(self) {
+        let Link {
+            op: _,
+            at: _,
+            right: _,
+        } = self;
+    }
+}
+
+impl Drop for Step {
+    #[cycle(drops)]
+    fn drop(self) {
+        match self {
+            Step::Field(_) | Step::Index(_, _) => {}
+        }
     }
 }

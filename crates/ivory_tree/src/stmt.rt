@@ -7,7 +7,7 @@ use iv_words::{Copied, Memory, Name, Seq, Span};
 use std::alloc::Global;
 
 /// A call of an import or of an earlier procedure, with its arguments, from the name to the `)`.
-#[derive(Drop, PartialEq, Eq)]
+#[derive(PartialEq, Eq)]
 pub struct CallText {
     pub name: Name,
     pub args: Seq<Expr>,
@@ -29,7 +29,7 @@ impl CallText {
 
 /// Statements in braces, with the place of these. The block of an `else if` has that one statement and its place.
 #[cycle(stmt)]
-#[derive(Drop, PartialEq, Eq)]
+#[derive(PartialEq, Eq)]
 pub struct Block {
     pub stmts: Seq<Stmt>,
     pub span: Span,
@@ -37,7 +37,7 @@ pub struct Block {
 
 /// A statement and where it stands.
 #[cycle(stmt)]
-#[derive(Drop, PartialEq, Eq)]
+#[derive(PartialEq, Eq)]
 pub struct Stmt {
     pub kind: StmtKind,
     pub span: Span,
@@ -50,7 +50,7 @@ pub struct Stmt {
 /// name of its index, the number N of its `ix(N)` and, where it has one, its bound. `NoAlloc`, `NoBreak` and `NoReturn` are
 /// the blocks that take a permission away.
 #[cycle(stmt)]
-#[derive(Drop, PartialEq, Eq)]
+#[derive(PartialEq, Eq)]
 pub enum StmtKind {
     Let(Name, Expr),
     LetCall(Name, CallText),
@@ -239,5 +239,45 @@ fn copied_second(second: &Option<Block>, alloc: Global) -> Result<Option<Block>,
 impl Copied for Stmt {
     fn copied(&self, alloc: Global) -> Result<Stmt, Memory> {
         self.copy(alloc)
+    }
+}
+
+// Each tree is dropped by a function of this crate: one that is derived would be proved again in each crate that drops a tree.
+
+impl Drop for CallText {
+    fn drop(self) {
+        let CallText {
+            name: _,
+            args: _,
+            span: _,
+        } = self;
+    }
+}
+
+impl Drop for Block {
+    #[cycle(drops)]
+    fn drop(self) {
+        let Block { stmts: _, span: _ } = self;
+    }
+}
+
+impl Drop for Stmt {
+    #[cycle(drops)]
+    fn drop(self) {
+        let Stmt { kind: _, span: _ } = self;
+    }
+}
+
+impl Drop for StmtKind {
+    #[cycle(drops)]
+    fn drop(self) {
+        match self {
+            StmtKind::Let(_, _) | StmtKind::LetCall(_, _) | StmtKind::Alloc(_, _, _) => {}
+            StmtKind::Store(_, _) | StmtKind::Copy(_, _) | StmtKind::Call(_) => {}
+            StmtKind::If(_, _, _) | StmtKind::Map(_, _, _) | StmtKind::Forever(_) => {}
+            StmtKind::Upto(_, _, _, _) | StmtKind::Downto(_, _, _, _) => {}
+            StmtKind::Break | StmtKind::Return(_) | StmtKind::Assert(_) => {}
+            StmtKind::NoAlloc(_) | StmtKind::NoBreak(_) | StmtKind::NoReturn(_) => {}
+        }
     }
 }

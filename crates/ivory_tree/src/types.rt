@@ -24,7 +24,7 @@ impl RegionText {
 
 /// A type as it is written, and where.
 #[cycle(text)]
-#[derive(Drop, PartialEq, Eq)]
+#[derive(PartialEq, Eq)]
 pub struct TypeText {
     pub kind: TypeKind,
     pub span: Span,
@@ -32,7 +32,7 @@ pub struct TypeText {
 
 /// The forms of a type: `bool`, a whole number, an index `ix(N)`, bit data by its name, or a reference.
 #[cycle(text)]
-#[derive(Drop, PartialEq, Eq)]
+#[derive(PartialEq, Eq)]
 pub enum TypeKind {
     Bool,
     Int(IntKind),
@@ -43,7 +43,7 @@ pub enum TypeKind {
 
 /// A reference to an area of a region; `constant` where it is written with `const`, so that nothing is stored through it.
 #[cycle(text)]
-#[derive(Drop, PartialEq, Eq)]
+#[derive(PartialEq, Eq)]
 pub struct RefText {
     pub constant: bool,
     pub region: RegionText,
@@ -52,7 +52,7 @@ pub struct RefText {
 
 /// The type of a memory area as it is written, and where.
 #[cycle(text)]
-#[derive(Drop, PartialEq, Eq)]
+#[derive(PartialEq, Eq)]
 pub struct AreaText {
     pub kind: AreaKind,
     pub span: Span,
@@ -60,7 +60,7 @@ pub struct AreaText {
 
 /// The forms of an area: one stored value, an array with its length, or a struct by its name.
 #[cycle(text)]
-#[derive(Drop, PartialEq, Eq)]
+#[derive(PartialEq, Eq)]
 pub enum AreaKind {
     Stored(Box<TypeText>),
     Array(u64, Box<AreaText>),
@@ -148,5 +148,51 @@ impl Copied for TypeText {
 impl Copied for AreaText {
     fn copied(&self, alloc: Global) -> Result<AreaText, Memory> {
         self.copy(alloc)
+    }
+}
+
+// Each tree is dropped by a function of this crate: one that is derived would be proved again in each crate that drops a tree.
+
+impl Drop for TypeText {
+    #[cycle(drops)]
+    fn drop(self) {
+        let TypeText { kind: _, span: _ } = self;
+    }
+}
+
+impl Drop for TypeKind {
+    #[cycle(drops)]
+    fn drop(self) {
+        match self {
+            TypeKind::Bool | TypeKind::Int(_) | TypeKind::Ix(_) => {}
+            TypeKind::Bits(_) | TypeKind::Ref(_) => {}
+        }
+    }
+}
+
+impl Drop for RefText {
+    #[cycle(drops)]
+    fn drop(self) {
+        let RefText {
+            constant: _,
+            region: _,
+            area: _,
+        } = self;
+    }
+}
+
+impl Drop for AreaText {
+    #[cycle(drops)]
+    fn drop(self) {
+        let AreaText { kind: _, span: _ } = self;
+    }
+}
+
+impl Drop for AreaKind {
+    #[cycle(drops)]
+    fn drop(self) {
+        match self {
+            AreaKind::Stored(_) | AreaKind::Array(_, _) | AreaKind::Struct(_) => {}
+        }
     }
 }

@@ -46,7 +46,7 @@ typed_fine : (t : TargetTable) (to : CKind) (v : ℤ) (r : Option ℤ) → conve
 typed_fine t to v None e = tt
 typed_fine t to v (Some w) e = record { typed = converted_is_held t to v w e; of_kind = refl }
 
-as_kind_fine : (t : TargetTable) (to from : CKind) (v : ℤ) → Fine t to (as_kind t to (Num from v))
+pub as_kind_fine : (t : TargetTable) (to from : CKind) (v : ℤ) → Fine t to (as_kind t to (Num from v))
 as_kind_fine t to from v = typed_fine t to v (convert_in t to v) refl
 
 -- ---- constants

@@ -4,3 +4,4 @@ pub mod Operands
 pub mod Bits
 pub mod HeldNumbers
 pub mod Expressions
+pub mod Stuck

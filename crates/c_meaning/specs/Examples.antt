@@ -15,12 +15,15 @@ use Rattle.c_ast.specs.declared.CType.{CType}
 use Rattle.c_ast.specs.declared.CType.TheVariants.{Void, Value}
 use Rattle.c_ast.specs.declared.Suffix.TheVariants.{Plain, U}
 use Rattle.c_ast.specs.declared.CExtern.{CExtern}
-use Rattle.c_ast.specs.declared.CBinary.TheVariants.{Div}
-use Rattle.c_ast.specs.Syntax.{Name, Expr, Number, Read, Binary, Var, Stmt, Const, ConstCall, If, IfElse, Forever, Break, Return, Block, Call, Nil, Function, TranslationUnit}
+use Rattle.c_ast.specs.declared.CBase.TheVariants as base
+use Rattle.c_ast.specs.declared.CBinary.TheVariants.{Div, Lt}
+use Rattle.c_ast.specs.Syntax.{Name, Expr, Number, Read, Binary, Var, Stmt, Const, ConstCall, Object, If, IfElse, Forever, Break, Return, Block, Call, Nil, Function, TranslationUnit}
 use Rattle.c_ast.specs.Examples.{rows, procedure, unit_with}
 use Rattle.step_semantics.specs.Runs.{end_of}
 use Rattle.c_meaning.specs.State.{shown_as_stuck}
-use Rattle.c_meaning.specs.Runs.{run_c}
+use Rattle.c_meaning.specs.Meant.{UnitIsMeant}
+use Rattle.c_meaning.specs.Laws.{no_site, watched}
+use Rattle.c_meaning.specs.Runs.{run_program, run_c}
 
 -- ---- writing units, scripts and outcomes
 
@@ -243,3 +246,28 @@ pub record NameAndConditionExamples : Type 0 where
   pub first : once (blinking (IfElse (number 1) (rows (pass (codes "iv_led") 1 ∷ [])) (rows (pass (codes "iv_led") 0 ∷ [])) ∷ [])) 3 ≡ outcome_of (led (pos 1) ∷ returned ∷ []) Ended
   pub second : once (blinking (IfElse (number 0) (rows (pass (codes "iv_led") 1 ∷ [])) (rows (pass (codes "iv_led") 0 ∷ [])) ∷ [])) 3 ≡ outcome_of (led (pos 0) ∷ returned ∷ []) Ended
   pub test_needs_a_step : once (blinking (If (number 0) Nil ∷ [])) 1 ≡ outcome_of [] Going
+
+-- ---- being stuck
+
+-- as the run of a watched unit shows it
+abbrev pub watched_once : TranslationUnit → ℕ → Outcome
+watched_once u n = run_program (watched u T32) (main_script []) n
+
+abbrev pub lost : Outcome
+lost = outcome_of [] (Stopped no_site)
+
+pub record StuckExamples : Type 0 where
+  pub object : watched_once (blinking (Object (codes "iv_y") (base.Scalar Truth) None ∷ [])) 9 ≡ lost
+  pub itself : watched_once (blinking (plain_call (codes "iv_main") ∷ [])) 9 ≡ lost
+  pub unknown : watched_once (blinking (Const (codes "iv_y") byte (name (codes "iv_x")) ∷ [])) 9 ≡ lost
+  pub undefined : watched_once (signed_led 128) 9 ≡ outcome_of [] (Undefined Implementation)
+
+-- units with externs, parameters, results, conditions and loops are among those of the law
+abbrev pub bounded : Stmt
+bounded = If (Binary Lt (name (codes "iv_x")) (number 3)) (rows (Return (Some (number 0)) ∷ []))
+
+abbrev pub looping : Stmt
+looping = Forever (rows (Break ∷ []))
+
+abbrev pub MeantExample : Type 0
+MeantExample = UnitIsMeant (calling byte (bounded ∷ looping ∷ Return (Some half) ∷ []) (shows_result byte 9)) T32

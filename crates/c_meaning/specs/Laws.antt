@@ -1,13 +1,19 @@
--- What holds of every run of C.
-use Rattle.std.specs.Prelude.{List}
+-- What holds of every run of C, and when a run is never stuck.
+use Rattle.std.specs.Prelude.{◌≢◌, ℕ, ◌^◌, List}
+use Rattle.iv_script.specs.declared.End.TheVariants.{Stopped}
 use Rattle.iv_script.specs.declared.Script.{Script}
+use Rattle.iv_script.specs.Scripts.{Fits}
+use Rattle.step_semantics.specs.Steps.{FailedCheck}
 use Rattle.step_semantics.specs.Lawful.{Lawful}
 use Rattle.step_semantics.specs.Outcomes.{OutcomeLaws}
 use Rattle.c_ast.specs.declared.Target.{Target}
+use Rattle.c_ast.specs.Exports.{c_exports}
 use Rattle.c_ast.specs.Syntax.{Name, TranslationUnit}
 use Rattle.c_meaning.specs.Values.{CValue}
 use Rattle.c_meaning.specs.Calls.{Calls}
-use Rattle.c_meaning.specs.Runs.{run_c}
+use Rattle.c_meaning.specs.State.{Program}
+use Rattle.c_meaning.specs.Meant.{UnitIsMeant}
+use Rattle.c_meaning.specs.Runs.{run_program, run_c}
 
 -- for each number of steps there is one outcome; more steps only add events, and an end is the end
 abbrev pub RunLaws : Type 0
@@ -15,3 +21,21 @@ RunLaws = (u : TranslationUnit) (t : Target) (script : Script) → OutcomeLaws (
 
 abbrev pub LawfulCalls : Calls → Type 0
 LawfulCalls functions = (name : Name) (values : List CValue) → Lawful (functions name values)
+
+-- ---- being stuck
+
+-- a site that no call of `ivory_stop` can name, whose parameter is of uint32_t
+abbrev pub no_site : ℕ
+no_site = 2 ^ 32
+
+-- the unit, where a run that is stuck is shown as a stop at that site: so it is told apart from all others
+abbrev pub watched : TranslationUnit → Target → Program
+watched u t = record { target = t; unit = u; stuck = FailedCheck no_site }
+
+-- no run of a script that fits is ever stuck
+abbrev pub NeverStuck : TranslationUnit → Target → Type 0
+NeverStuck u t = (script : Script) → Fits script (c_exports u) → (n : ℕ) → (run_program (watched u t) script n).end ≢ Stopped no_site
+
+-- so it is of each unit of the forms that have a meaning, where it keeps the rules of names and types
+abbrev pub MeantUnitsAreNeverStuck : Type 0
+MeantUnitsAreNeverStuck = (u : TranslationUnit) (t : Target) → UnitIsMeant u t → NeverStuck u t

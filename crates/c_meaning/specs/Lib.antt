@@ -6,8 +6,9 @@ pub mod Expressions
 pub mod Calls
 pub mod Statements
 pub mod Runs
-pub mod Laws
 pub mod ExpressionLaws
+pub mod Meant
+pub mod Laws
 pub mod NumberExamples
 pub mod ValueExamples
 pub mod Examples

@@ -1,12 +1,23 @@
-ghost use Rattle.c_meaning.specs.Laws.{RunLaws};
+ghost use Rattle.c_meaning.specs.Laws.{RunLaws, MeantUnitsAreNeverStuck};
 ghost use Rattle.c_meaning.specs.ExpressionLaws.{ValuesHaveTheirTypes, TypedNumbersAreNotStuck};
 ghost use Rattle.c_meaning.specs.NumberExamples.{SumExamples, ProductExamples, QuotientExamples, BitExamples, LeftShiftExamples, RightShiftExamples, ComparisonExamples, UnaryExamples, PointerExamples};
 ghost use Rattle.c_meaning.specs.ValueExamples.{NameExamples, OrderExamples, CastExamples, ConditionExamples};
-ghost use Rattle.c_meaning.specs.Examples.{EmptyMain, EmptyMainNeedsAStep, NoCalls, HiddenMain, LedOnce, LedNeedsAStep, LedTwice, LedWraps, LedTruth, LedSigned, LedTooGreat, LedTooGreatLater, Replied, NotReplied, BadlyReplied, Stops, CallsEarlier, CallsEarlierInSteps, CallsItself, EndlessLoop, EndlessLed, LoopLeft, LoopLeftInSteps, Returns, Blocks, EntryValueExamples, CallValueExamples, NameAndConditionExamples};
+ghost use Rattle.c_meaning.specs.Examples.{EmptyMain, EmptyMainNeedsAStep, NoCalls, HiddenMain, LedOnce, LedNeedsAStep, LedTwice, LedWraps, LedTruth, LedSigned, LedTooGreat, LedTooGreatLater, Replied, NotReplied, BadlyReplied, Stops, CallsEarlier, CallsEarlierInSteps, CallsItself, EndlessLoop, EndlessLed, LoopLeft, LoopLeftInSteps, Returns, Blocks, EntryValueExamples, CallValueExamples, NameAndConditionExamples, StuckExamples, MeantExample};
 
 /// The outcomes of a run of C: one for each number of steps, whose events only grow, and whose end stays.
 pub fn run_laws()
     ensures { RunLaws }
+{}
+
+/// A unit of the forms that have a meaning is never stuck, where it keeps the rules of names and types.
+pub fn stuck_laws()
+    ensures { MeantUnitsAreNeverStuck }
+{}
+
+/// Which runs are stuck, and a unit that never is.
+pub fn stuck_examples()
+    ensures stuck { StuckExamples }
+    ensures meant { MeantExample }
 {}
 
 /// The value of an expression is one of the type of the expression, and a typed expression of numbers is not stuck.

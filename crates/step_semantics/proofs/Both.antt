@@ -58,7 +58,7 @@ module _ {S T A B : Type 0} (excused : ℕ → Bool) (see : S → List AreaCells
         is = ap (outcome see') b.3 ∙ ap (λ l. let o : Outcome = record { events = v.events; end = Ended; areas = l } in o) (sym e);
       }
   met n y (Halted (NoMeaning reason) v seen) defined unfailed h = absurd (defined reason refl)
-  met n y (Halted (FailedCheck site) v seen) defined unfailed h = 
+  met n y (Halted (FailedCheck site) v seen) defined unfailed h =
       owed_met (excused site) (Ends 16 n (FailedCheck site) v seen (λ j. part' j w t)) (Meets target n (outcome {A = A} see (Halted (FailedCheck site) v seen))) (λ e. unfailed site e refl) (met_end n (FailedCheck site) v seen) h
   met n y (Halted MissingReply v seen) defined unfailed h = met_end n MissingReply v seen h
   met n y (Halted UnfitReply v seen) defined unfailed h = met_end n UnfitReply v seen h

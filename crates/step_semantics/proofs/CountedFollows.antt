@@ -13,9 +13,8 @@ use Rattle.step_semantics.proofs.Following.{carried, rests, bound}
 module _ {S T V U : Type 0} (excused : ℕ → Bool) (rel : S → T → Type 0) (back : V → S → U → T → Type 0) where
   -- `head` relates the states before a turn, by how many turns come after it and its value
   module _ (x : ℕ) (next : ℕ → ℕ) (body : ℕ → Part S (Control V)) (turn : Part T (Control U)) (lawful : Lawful turn) (head : ℕ → ℕ → S → T → Type 0)
-    (each : (more i : ℕ) (s : S) (t : T) → head (suc more) i s t → (n : ℕ) (w : World) → Follows excused (Turned rel back (head more (next i))) (x + 15) x n (body i n w s) (λ j. turn j w t))
-    (last : (i : ℕ) (s : S) (t : T) → head zero i s t → (n : ℕ) (w : World) → Follows excused (LastTurned rel back) (x + 15) x n (body i n w s) (λ j. turn j w t)) where
-
+      (each : (more i : ℕ) (s : S) (t : T) → head (suc more) i s t → (n : ℕ) (w : World) → Follows excused (Turned rel back (head more (next i))) (x + 15) x n (body i n w s) (λ j. turn j w t))
+      (last : (i : ℕ) (s : S) (t : T) → head zero i s t → (n : ℕ) (w : World) → Follows excused (LastTurned rel back) (x + 15) x n (body i n w s) (λ j. turn j w t)) where
     turned : (rest : Part S (Control V)) (i more n : ℕ) → ((s : S) (t : T) → head more i s t → (m : ℕ) → m ≤ n → (w : World) → Follows excused (Same rel back) x x m (rest m w s) (λ j. forever turn j w t))
         → (a : Control V) (s : S) (b : Control U) (t : T) → Turned rel back (head more i) a s b t → (m : ℕ) → m ≤ n → (w : World) → Follows excused (Same rel back) x x m (again rest a m w s) (λ j. again (forever turn) b j w t)
     turned rest i more n h Falls s Falls t g m le w = h s t g m le w

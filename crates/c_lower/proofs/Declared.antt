@@ -108,6 +108,7 @@ module _ (target : Target) (imports : List FirstImport) where
       let s : Signature = function_signature (function_for imports p) in (
         prefixed_file_name p.name (All-head IsName p.name names named),
         first_new known p.name names new,
+        refl,
         calls_right known reaches p.calls (All-head (λ p. All (CallFits imports) p.calls) p ps fits),
         functions_right (known ++ s ∷ []) (λ k i e. declares_more (signature_for i) known (s ∷ []) (reaches k i e)) ps (All-tail IsName p.name names named)
             (still_new known s p.name names refl new (pairs_head Differs p.name names differ)) (pairs_tail Differs p.name names differ) (All-tail (λ p. All (CallFits imports) p.calls) p ps fits),
@@ -146,9 +147,10 @@ module _ (m : FirstModule) (valid : Valid m) where
   lowered_right target =
       let imports : List (List ℕ) = import_names m valid in
       let procs : List (List ℕ) = proc_names m valid in
-      externs_right target procs (map (function_for m.imports) m.procs) m.imports (stop_signature ∷ []) valid.named
+      let declared = externs_right target procs (map (function_for m.imports) m.procs) m.imports (stop_signature ∷ []) valid.named
       (All-cons (λ s. All (λ n. s.name ≢ prefixed n) (imports ++ procs)) stop_signature [] (all_names (imports ++ procs)) (All-nil (λ s. All (λ n. s.name ≢ prefixed n) (imports ++ procs)))) valid.different
-      (λ later fresh more reaches. functions_right target m.imports later reaches m.procs (all_after IsName imports procs valid.named) fresh (pairs_after Differs imports procs valid.different) valid.calls)
+      (λ later fresh more reaches. functions_right target m.imports later reaches m.procs (all_after IsName imports procs valid.named) fresh (pairs_after Differs imports procs valid.different) valid.calls) in
+      record { structs = refl; objects = refl; declarations = declared }
 
   pub lowered_reads_back : (target : Target) → ReadsBack (lowered m) (unit_text (lowered m)) target
   lowered_reads_back target = right_reads_back (lowered m) target (lowered_in_subset m valid) (lowered_right target)

@@ -1,5 +1,6 @@
 -- When the names and types of a unit are right (C99 6.2.1, 6.5.2.2, 6.4.4.1, and the prefix of file scope): no name is declared
 -- twice, each call is of a function that is declared before it, with as many arguments as parameters, and each constant has a type.
+-- What is not judged yet has to be absent: structs, objects, parameters of functions, and all statements but calls.
 use Rattle.std.specs.Prelude.{◌≡◌, ◌≢◌, ℕ, List, [], ◌∷◌, ◌++◌, All, IsSome}
 use Rattle.iv_words.specs.declared.kind.IntKind.TheVariants.{U32}
 use Rattle.c_ast.specs.declared.types.CScalar.TheVariants.{Int}
@@ -84,15 +85,17 @@ abbrev pub StmtsRight : Target → List Signature → Stmts → Type 0
 StmtsRight target known Nil = Unit {0}
 StmtsRight target known (Cons s rest) = StmtRight target known s × StmtsRight target known rest
 
--- a function can call what stands before it, and not itself
+-- a function can call what stands before it, and not itself; its parameters are not judged yet, so that it must have none
 abbrev pub FunctionsRight : Target → List Signature → List Function → Type 0
 FunctionsRight target known [] = Unit {0}
-FunctionsRight target known (f ∷ fs) = IsFileName f.name × IsNew known f.name × StmtsRight target known f.body × FunctionsRight target (known ++ function_signature f ∷ []) fs
+FunctionsRight target known (f ∷ fs) = IsFileName f.name × IsNew known f.name × (f.params ≡ []) × StmtsRight target known f.body × FunctionsRight target (known ++ function_signature f ∷ []) fs
 
 -- externs, and then the functions
 abbrev pub DeclarationsRight : Target → List Signature → List CExtern → List Function → Type 0
 DeclarationsRight target known [] functions = FunctionsRight target known functions
 DeclarationsRight target known (x ∷ xs) functions = IsFileName x.name × IsNew known x.name × DeclarationsRight target (known ++ extern_signature x ∷ []) xs functions
 
-abbrev pub Right : Target → TranslationUnit → Type 0
-Right target u = DeclarationsRight target (stop_signature ∷ []) u.externs u.functions
+pub record Right (target : Target) (u : TranslationUnit) : Type 0 where
+  pub structs : u.structs ≡ []
+  pub objects : u.objects ≡ []
+  pub declarations : DeclarationsRight target (stop_signature ∷ []) u.externs u.functions

@@ -8,7 +8,7 @@ use Rattle.first_form.specs.declared.FirstModule.{FirstModule}
 use Rattle.first_form.specs.declared.FirstImport.{FirstImport}
 use Rattle.first_form.specs.declared.FirstProc.{FirstProc}
 use Rattle.first_form.specs.declared.FirstCall.{FirstCall}
-use Rattle.first_form.specs.Names.{IsName}
+use Rattle.ivory_lexer.specs.Tokens.{IsName}
 use Rattle.first_form.specs.Valid.{CallFits, Valid}
 use Rattle.c_ast.specs.declared.CScalar.TheVariants.{Int}
 use Rattle.c_ast.specs.declared.CType.TheVariants.{Value}

@@ -4,7 +4,7 @@ use Rattle.std.specs.Prelude.{IsTrue, ◌&&◌, ◌||◌}
 use Rattle.std.specs.List.{list_all}
 use Rattle.iv_words.specs.Words.{same_word}
 use Rattle.ivory_lexer.specs.Table.{is_name, begins_name, is_in_name}
-use Rattle.first_form.specs.Names.{IsName}
+use Rattle.ivory_lexer.specs.Tokens.{IsName}
 use Rattle.c_ast.specs.Names.{prefixed, outer_name, stop_name}
 use Rattle.c_text.specs.Identifiers.{is_digit, is_identifier_byte, IsIdentifier, IsFileName}
 use Rattle.c_lower.proofs.Words.{same_self, not_stop}

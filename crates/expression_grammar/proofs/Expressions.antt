@@ -48,7 +48,7 @@ plain_arms d at =
 some_arms : (d : ℕ) (at : Span) → (p : Expr × Expr) × (row : Row Token) × ArmsAfter d at p row
 some_arms d at =
     let x = some_expression d in
-    let m : rows.Mark Token = record { token = marked mark.Colon nowhere; depth = d } in
+    let m : rows.Entry Token = record { token = marked mark.Colon nowhere; depth = d } in
     ((x.0, x.0), x.1 ++ (m ∷ x.1), (x.0, x.1, m ∷ x.1, refl, x.2, (nowhere, m ∷ [], x.1, refl, (m, refl, refl, refl), (x.0, x.2, refl))))
 
 good_arms_of : {limit e : ℕ} (p : Reader Token Expr) → e ≤ limit → Good signs limit goes_on (Rule spelled.expression e) p → (at : Span) → Good signs limit goes_on (ArmsAfter e at) (arms_of p at)

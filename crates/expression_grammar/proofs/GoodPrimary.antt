@@ -29,14 +29,15 @@ use Rattle.reading.proofs.SignChoice.{Others}
 use Rattle.reading.proofs.Literals.{others_literal, others_as, others_spanned, others_then}
 use Rattle.expression_grammar.specs.declared.PrimaryForm.{PrimaryForm}
 use Rattle.expression_grammar.specs.declared.PrimaryForm.TheVariants as form
-use Rattle.expression_grammar.specs.Tokens.{same_mark, is_mark, symbol, keyword, word_of, name_of, number_of, truth_of, int_of, signs}
+use Rattle.ivory_lexer.specs.Same.{same_mark}
+use Rattle.expression_grammar.specs.Tokens.{is_mark, symbol, keyword, word_of, name_of, number_of, truth_of, int_of, signs}
 use Rattle.expression_grammar.specs.Trees as tree
 use Rattle.expression_grammar.specs.Forms.{form_of}
 use Rattle.expression_grammar.specs.Grammar.{Rule}
 use Rattle.expression_grammar.specs.Grammar as spelled
 use Rattle.expression_grammar.specs.Reader.{beside, change, within, form_reader, primary_reader, field_reader, element_reader, begins_step, step_reader, postfix_reader}
 use Rattle.expression_grammar.specs.Edges.{goes_on}
-use Rattle.expression_grammar.proofs.Places.{same_mark_self, same_key_self}
+use Rattle.ivory_lexer.proofs.Same.{same_mark_self, same_key_self}
 use Rattle.expression_grammar.proofs.Nodes.{number_node, negative_node, truth_node, outcome_node, variable_node, cast_node, to_index_node, wrap_index_node, make_bits_node, raw_node, set_field_node, element_node, steps_node}
 use Rattle.expression_grammar.proofs.Tokens.{token, marked, keyed, at_mark, mark_or, symbol_passes, symbol_some, keyword_some, number_passes}
 use Rattle.expression_grammar.proofs.Primaries.{Form, Negative, Parens, Beside, NewValue, Change, to_primary, from_primary}
@@ -105,16 +106,16 @@ module _ {limit e : ℕ} (low : e ≤ limit) (expr : Reader Token Expr) (good : 
       (λ x b r. absurd ((starts_new x).nonempty b r))
 
 comma_at : (d : ℕ) → (s : Span) × (row : Row Token) × Terminal d (symbol mark.Comma) s row
-comma_at d = let m : rows.Mark Token = record { token = marked mark.Comma nowhere; depth = d } in (nowhere, m ∷ [], (m, refl, refl, refl))
+comma_at d = let m : rows.Entry Token = record { token = marked mark.Comma nowhere; depth = d } in (nowhere, m ∷ [], (m, refl, refl, refl))
 
 number_at : (d : ℕ) → (n : ℕ) × (row : Row Token) × Terminal d number_of n row
-number_at d = let m : rows.Mark Token = record { token = token (kind.Number 0) nowhere; depth = d } in (0, m ∷ [], (m, refl, refl, refl))
+number_at d = let m : rows.Entry Token = record { token = token (kind.Number 0) nowhere; depth = d } in (0, m ∷ [], (m, refl, refl, refl))
 
 word_at : (d : ℕ) → (w : List ℕ) × (row : Row Token) × Terminal d word_of w row
-word_at d = let m : rows.Mark Token = record { token = token (kind.Name []) nowhere; depth = d } in ([], m ∷ [], (m, refl, refl, refl))
+word_at d = let m : rows.Entry Token = record { token = token (kind.Name []) nowhere; depth = d } in ([], m ∷ [], (m, refl, refl, refl))
 
 name_at : (d : ℕ) → (x : Name) × (row : Row Token) × Terminal d name_of x row
-name_at d = let m : rows.Mark Token = record { token = token (kind.Name []) nowhere; depth = d } in (record { text = []; span = nowhere }, m ∷ [], (m, refl, refl, refl))
+name_at d = let m : rows.Entry Token = record { token = token (kind.Name []) nowhere; depth = d } in (record { text = []; span = nowhere }, m ∷ [], (m, refl, refl, refl))
 
 some_beside : {A : Type 0} (d : ℕ) (First : Language Token A) → (a : A) × (row : Row Token) × First a row → (p : A × Expr) × (row : Row Token) × Beside d First p row
 some_beside d First (a, f, first) =

@@ -1,5 +1,4 @@
 pub mod Unfold
-pub mod Places
 pub mod Tokens
 pub mod Nodes
 pub mod Filled
@@ -13,3 +12,4 @@ pub mod GoodPrimary
 pub mod GoodOperand
 pub mod Expressions
 pub mod Exactly
+pub mod FlatChain

@@ -18,7 +18,8 @@ use Rattle.reading.proofs.Starts.{terminal_nonempty}
 use Rattle.reading.proofs.Plain.{Plain, plain_terminal, plain_mapped, plain_spanned, plain_either, plain_as, plain_headed, plain_then, plain_last, plain_many}
 use Rattle.expression_grammar.specs.declared.PrimaryForm.{PrimaryForm}
 use Rattle.expression_grammar.specs.declared.PrimaryForm.TheVariants as form
-use Rattle.expression_grammar.specs.Tokens.{same_mark, is_mark, is_name, is_number, symbol, keyword, word_of, name_of, number_of, truth_of, signs}
+use Rattle.ivory_lexer.specs.Same.{same_mark}
+use Rattle.expression_grammar.specs.Tokens.{is_mark, is_name, is_number, symbol, keyword, word_of, name_of, number_of, truth_of, signs}
 use Rattle.expression_grammar.specs.Operators.{plain_prefix, is_plain_prefix}
 use Rattle.expression_grammar.specs.Trees as tree
 use Rattle.expression_grammar.specs.Grammar.{Symbol, Tree, Spells, Rule, operator_levels}
@@ -95,13 +96,13 @@ pub plain_postfix : (d : ℕ) → Plain signs (Rule spelled.postfix d)
 plain_postfix d = plain_as (from_postfix d) (plain_spanned steps_node (plain_then (plain_primary d) (λ x. plain_mapped (λ steps. (x, steps)) (plain_many (plain_step d)))))
 
 -- the last mark of two rows is the last of the second, if that has one
-last_behind : (f g row : Row Token) (m : rows.Mark Token) → f ++ g ≡ row ++ m ∷ [] → (g ≡ [] → ⊥) → (h : Row Token) × (g ≡ h ++ m ∷ [])
+last_behind : (f g row : Row Token) (m : rows.Entry Token) → f ++ g ≡ row ++ m ∷ [] → (g ≡ [] → ⊥) → (h : Row Token) × (g ≡ h ++ m ∷ [])
 last_behind f g row m e filled = elim (split_at row m [] f g (sym e)) [
   | inl (h, here, there) ↦ (h, there)
   | inr (h, here, there) ↦ absurd (filled (back_nil h g there))
 ]
 
-operand_ends : (d : ℕ) (v : Expr) (all : Row Token) → Spells spelled.operand v d all → (row : Row Token) (m : rows.Mark Token) → all ≡ row ++ m ∷ [] → is_mark mark.Minus m.token ≡ false
+operand_ends : (d : ℕ) (v : Expr) (all : Row Token) → Spells spelled.operand v d all → (row : Row Token) (m : rows.Entry Token) → all ≡ row ++ m ∷ [] → is_mark mark.Minus m.token ≡ false
 operand_ends d v all (spelled.unprefixed r) row m e = (plain_postfix d).ends v row m (subst (Spells spelled.postfix v d) e r)
 operand_ends d v all (spelled.negated {x} {f} {g} t r isnt) row m e = let w = last_behind f g row m e (λ none. (starts_operand (suc d)).nonempty x (subst (Spells spelled.operand x (suc d)) none r)) in operand_ends (suc d) x g r w.0 m w.1
 operand_ends d v all (spelled.prefixed {x} {f} {g} t r) row m e = let w = last_behind f g row m e (λ none. (starts_operand (suc d)).nonempty x (subst (Spells spelled.operand x (suc d)) none r)) in operand_ends (suc d) x g r w.0 m w.1
@@ -115,7 +116,7 @@ plain_chain (suc n) d =
     let links = plain_as (from_link n d) (plain_last (λ o. plain_mapped (tree.link o) (plain_chain n d)) (λ o b (x, r, is). (starts_chain n d).nonempty x r)) in
     plain_as (from_chain n d) (plain_spanned links_node (plain_then (plain_chain n d) (λ x. plain_mapped (λ links. (x, links)) (plain_many links))))
 
-expression_ends : (d : ℕ) (v : Expr) (all : Row Token) → Spells spelled.expression v d all → (row : Row Token) (m : rows.Mark Token) → all ≡ row ++ m ∷ [] → is_mark mark.Minus m.token ≡ false
+expression_ends : (d : ℕ) (v : Expr) (all : Row Token) → Spells spelled.expression v d all → (row : Row Token) (m : rows.Entry Token) → all ≡ row ++ m ∷ [] → is_mark mark.Minus m.token ≡ false
 expression_ends d v all (spelled.plain r) row m e = (plain_chain operator_levels d).ends v row m (subst (Spells (spelled.chain operator_levels) v d) e r)
 expression_ends d v all (spelled.conditional {b} {f} {g} {h} {i} {j} r q ra c rb) row m e =
     let front : (f ++ (g ++ (h ++ i))) ++ j ≡ f ++ (g ++ (h ++ (i ++ j))) = append_assoc f (g ++ (h ++ i)) j ∙ ap (λ y. f ++ y) (append_assoc g (h ++ i) j ∙ ap (λ y. g ++ y) (append_assoc h i j)) in

@@ -4,7 +4,7 @@ use Rattle.iv_words.specs.declared.Span.{Span}
 use Rattle.ivory_lexer.specs.declared.Token.{Token}
 use Rattle.ivory_lexer.specs.declared.TokenKind.TheVariants as kind
 use Rattle.ivory_tree.specs.declared.Expr.{Expr}
-use Rattle.reading.specs.Row.{Mark, Row}
+use Rattle.reading.specs.Row.{Entry, Row}
 use Rattle.reading.specs.Language.{Terminal}
 use Rattle.expression_grammar.specs.Tokens.{word_of, is_number}
 use Rattle.expression_grammar.specs.Grammar.{Rule, operator_levels}
@@ -14,7 +14,7 @@ use Rattle.expression_grammar.proofs.Tokens.{token}
 abbrev pub nowhere : Span
 nowhere = record { start = 0; end = 0 }
 
-a_name : ℕ → Mark Token
+a_name : ℕ → Entry Token
 a_name d = record { token = token (kind.Name []) nowhere; depth = d }
 
 named : (d : ℕ) → Terminal d word_of [] (a_name d ∷ [])
@@ -25,7 +25,7 @@ pub some_postfix : (d : ℕ) → (x : Expr) × (row : Row Token) × Rule spelled
 some_postfix d = (_, _, spelled.stepped (spelled.variable (named d)) spelled.none)
 
 -- it begins with no number
-pub some_operand : (d : ℕ) → (x : Expr) × (n : Mark Token) × (g : Row Token) × Rule spelled.operand d x (n ∷ g) × (is_number n.token ≡ false)
+pub some_operand : (d : ℕ) → (x : Expr) × (n : Entry Token) × (g : Row Token) × Rule spelled.operand d x (n ∷ g) × (is_number n.token ≡ false)
 unfolding a_name
 some_operand d = (_, a_name d, [], spelled.unprefixed (spelled.stepped (spelled.variable (named d)) spelled.none), refl)
 

@@ -8,8 +8,9 @@ use Rattle.ivory_lexer.specs.declared.TokenKind.TheVariants as kind
 use Rattle.ivory_lexer.specs.declared.Mark.{Mark}
 use Rattle.ivory_lexer.specs.declared.Key.{Key}
 use Rattle.ivory_tree.specs.Syntax.{Word}
-use Rattle.expression_grammar.specs.Tokens.{same_mark, same_key, is_mark_kind, is_key_kind, is_mark, is_key, span_where, symbol, keyword, named, word_of_kind, word_of, name_of, number_of_kind, number_of, is_name, is_number}
-use Rattle.expression_grammar.proofs.Places.{same_mark_tells, same_key_tells}
+use Rattle.ivory_lexer.specs.Same.{same_key, same_mark}
+use Rattle.expression_grammar.specs.Tokens.{is_mark_kind, is_key_kind, is_mark, is_key, span_where, symbol, keyword, named, word_of_kind, word_of, name_of, number_of_kind, number_of, is_name, is_number}
+use Rattle.ivory_lexer.proofs.Same.{same_mark_equal, same_key_equal}
 
 -- a token of this kind
 abbrev pub token : TokenKind → Span → Token
@@ -24,11 +25,11 @@ keyed k s = token (kind.Key k) s
 -- ---- the kind behind a test
 
 mark_kind : (a : Mark) (k : TokenKind) → is_mark_kind a k ≡ true → k ≡ kind.Mark a
-mark_kind a (kind.Mark m) e = ap kind.Mark (sym (same_mark_tells a m e))
+mark_kind a (kind.Mark m) e = ap kind.Mark (sym (same_mark_equal a m e))
 mark_kind a _ e = cc
 
 key_kind : (a : Key) (k : TokenKind) → is_key_kind a k ≡ true → k ≡ kind.Key a
-key_kind a (kind.Key m) e = ap kind.Key (sym (same_key_tells a m e))
+key_kind a (kind.Key m) e = ap kind.Key (sym (same_key_equal a m e))
 key_kind a _ e = cc
 
 word_kind : (k : TokenKind) (w : Word) → word_of_kind k ≡ Some w → k ≡ kind.Name w

@@ -1,5 +1,5 @@
 -- Expressions that are the whole text, and small ones with their trees.
-use Rattle.std.specs.Prelude.{◌≡◌, ℕ, ◌+◌, pos, neg_ℤ, true, false, List, [], ◌∷◌, Some}
+use Rattle.std.specs.Prelude.{◌≡◌, ℕ, ◌+◌, pos, neg_ℤ, true, false, List, [], ◌∷◌}
 use Rattle.iv_words.specs.declared.Span.{Span}
 use Rattle.iv_words.specs.declared.IntKind.TheVariants as int
 use Rattle.ivory_lexer.specs.declared.Token.{Token}
@@ -12,11 +12,13 @@ use Rattle.ivory_tree.specs.declared.PrefixOp.TheVariants as prefix
 use Rattle.ivory_tree.specs.declared.BinOp.{BinOp}
 use Rattle.ivory_tree.specs.declared.BinOp.TheVariants as op
 use Rattle.ivory_tree.specs.declared.Expr.{Expr}
+use Rattle.ivory_tree.specs.declared.ExprKind.{ExprKind}
+use Rattle.ivory_tree.specs.declared.ExprKind.TheVariants as form
+use Rattle.ivory_tree.specs.declared.Step.TheVariants as part
 use Rattle.reading.specs.Language.{Language}
 use Rattle.reading.specs.Reader.{whole}
 use Rattle.reading.specs.Exact.{Answer, Tree, UnexpectedToken, DeepToken, answer, Spelled, Exact}
 use Rattle.expression_grammar.specs.Tokens.{signs}
-use Rattle.expression_grammar.specs.Trees as tree
 use Rattle.expression_grammar.specs.Grammar.{Rule}
 use Rattle.expression_grammar.specs.Grammar as spelled
 use Rattle.expression_grammar.specs.Reader.{expression}
@@ -52,13 +54,16 @@ letter c = kind.Name (c ∷ [])
 abbrev sign : Mark → TokenKind
 sign m = kind.Mark m
 
+abbrev node : ExprKind → Span → Expr
+node kind span = record { kind = kind; span = span }
+
 -- a letter as an expression, at a place
 abbrev named : ℕ → ℕ → Expr
-named c n = tree.variable (c ∷ []) (from n (n + 1))
+named c n = node (form.Var (c ∷ [])) (from n (n + 1))
 
 -- of two operands, with the operator at a place
 abbrev binary : BinOp → ℕ → Expr → Expr → Span → Expr
-binary o n left right s = tree.with_links left (tree.link (o, from n (n + 1)) right ∷ []) s
+binary o n left right s = node (form.Chain left (record { op = o; at = from n (n + 1); right = right } ∷ [])) s
 
 -- ---- operators
 
@@ -84,24 +89,24 @@ LevelsFall =
 abbrev pub ChainsAreFlat : Type 0
 ChainsAreFlat =
     read 0 (letter 97 ∷ sign mark.Minus ∷ letter 98 ∷ sign mark.Plus ∷ letter 99 ∷ [])
-    ≡ Tree (tree.with_links (named 97 0) (tree.link (op.Sub, from 1 2) (named 98 2) ∷ tree.link (op.Add, from 3 4) (named 99 4) ∷ []) (from 0 5))
+    ≡ Tree (node (form.Chain (named 97 0) (record { op = op.Sub; at = from 1 2; right = named 98 2 } ∷ record { op = op.Add; at = from 3 4; right = named 99 4 } ∷ [])) (from 0 5))
 
 -- ---- signs
 
 -- - 5, where nothing may nest
 abbrev pub SignOfNumber : Type 0
-SignOfNumber = read 0 (sign mark.Minus ∷ kind.Number 5 ∷ []) ≡ Tree (tree.literal (neg_ℤ (pos 5)) (from 0 2))
+SignOfNumber = read 0 (sign mark.Minus ∷ kind.Number 5 ∷ []) ≡ Tree (node (form.Lit (neg_ℤ (pos 5))) (from 0 2))
 
 -- a - 5
 abbrev pub SignBetween : Type 0
-SignBetween = read 0 (letter 97 ∷ sign mark.Minus ∷ kind.Number 5 ∷ []) ≡ Tree (binary op.Sub 1 (named 97 0) (tree.literal (pos 5) (from 2 3)) (from 0 3))
+SignBetween = read 0 (letter 97 ∷ sign mark.Minus ∷ kind.Number 5 ∷ []) ≡ Tree (binary op.Sub 1 (named 97 0) (node (form.Lit (pos 5)) (from 2 3)) (from 0 3))
 
 -- - a, where nothing may nest, and where one level may
 abbrev pub PrefixNests : Type 0
 PrefixNests = read 0 (sign mark.Minus ∷ letter 97 ∷ []) ≡ DeepToken 0
 
 abbrev pub PrefixIsNode : Type 0
-PrefixIsNode = read 1 (sign mark.Minus ∷ letter 97 ∷ []) ≡ Tree (tree.prefixed_by prefix.Neg (named 97 1) (from 0 2))
+PrefixIsNode = read 1 (sign mark.Minus ∷ letter 97 ∷ []) ≡ Tree (node (form.Prefix prefix.Neg (named 97 1)) (from 0 2))
 
 -- ---- what nests
 
@@ -110,7 +115,7 @@ abbrev pub ChoiceNests : Type 0
 ChoiceNests = read 0 (letter 97 ∷ sign mark.Question ∷ letter 98 ∷ sign mark.Colon ∷ letter 99 ∷ []) ≡ DeepToken 1
 
 abbrev pub ChoiceIsNode : Type 0
-ChoiceIsNode = read 1 (letter 97 ∷ sign mark.Question ∷ letter 98 ∷ sign mark.Colon ∷ letter 99 ∷ []) ≡ Tree (tree.with_arms (named 97 0) (Some (named 98 2, named 99 4)) (from 0 5))
+ChoiceIsNode = read 1 (letter 97 ∷ sign mark.Question ∷ letter 98 ∷ sign mark.Colon ∷ letter 99 ∷ []) ≡ Tree (node (form.Cond (named 97 0) (named 98 2) (named 99 4)) (from 0 5))
 
 -- a ? b : c ? d : e
 abbrev pub LastArmNests : Type 0
@@ -127,7 +132,7 @@ ParenthesesAreNoNode = read 1 (sign mark.OpenParen ∷ letter 97 ∷ sign mark.C
 abbrev pub StepsAreFlat : Type 0
 StepsAreFlat =
     read 1 (sign mark.OpenParen ∷ letter 97 ∷ sign mark.CloseParen ∷ sign mark.OpenBracket ∷ letter 98 ∷ sign mark.CloseBracket ∷ sign mark.Dot ∷ letter 99 ∷ [])
-    ≡ Tree (tree.with_steps (named 97 1) (tree.index (named 98 4) (from 3 6) ∷ tree.field (record { text = 99 ∷ []; span = from 7 8 }) ∷ []) (from 0 8))
+    ≡ Tree (node (form.Postfix (named 97 1) (part.Index (named 98 4) (from 3 6) ∷ part.Field (record { text = 99 ∷ []; span = from 7 8 }) ∷ [])) (from 0 8))
 
 -- ---- where a text goes wrong
 
@@ -146,25 +151,25 @@ NoOperator = read 0 (letter 97 ∷ letter 98 ∷ []) ≡ UnexpectedToken 1
 
 abbrev pub Words : Type 0
 Words =
-    (read 0 (kind.Key key.KwTrue ∷ []) ≡ Tree (tree.truth true (from 0 1)))
-    × (read 0 (kind.Key key.KwFalse ∷ []) ≡ Tree (tree.truth false (from 0 1)))
-    × (read 0 (kind.Key key.KwResult ∷ []) ≡ Tree (tree.outcome (from 0 1)))
+    (read 0 (kind.Key key.KwTrue ∷ []) ≡ Tree (node (form.Truth true) (from 0 1)))
+    × (read 0 (kind.Key key.KwFalse ∷ []) ≡ Tree (node (form.Truth false) (from 0 1)))
+    × (read 0 (kind.Key key.KwResult ∷ []) ≡ Tree (node form.Outcome (from 0 1)))
 
 -- uint8_t ( a ), raw ( a )
 abbrev pub CallsOfOne : Type 0
 CallsOfOne =
-    (read 1 (kind.Key key.KwUint8t ∷ sign mark.OpenParen ∷ letter 97 ∷ sign mark.CloseParen ∷ []) ≡ Tree (tree.cast int.U8 (named 97 2) (from 0 4)))
-    × (read 1 (kind.Key key.KwRaw ∷ sign mark.OpenParen ∷ letter 97 ∷ sign mark.CloseParen ∷ []) ≡ Tree (tree.raw (named 97 2) (from 0 4)))
+    (read 1 (kind.Key key.KwUint8t ∷ sign mark.OpenParen ∷ letter 97 ∷ sign mark.CloseParen ∷ []) ≡ Tree (node (form.Cast int.U8 (named 97 2)) (from 0 4)))
+    × (read 1 (kind.Key key.KwRaw ∷ sign mark.OpenParen ∷ letter 97 ∷ sign mark.CloseParen ∷ []) ≡ Tree (node (form.Raw (named 97 2)) (from 0 4)))
 
 -- toix ( 5 , a ), wrapix ( 5 , a ), bits ( a , b )
 abbrev pub CallsOfTwo : Type 0
 CallsOfTwo =
-    (read 1 (kind.Key key.KwToix ∷ sign mark.OpenParen ∷ kind.Number 5 ∷ sign mark.Comma ∷ letter 97 ∷ sign mark.CloseParen ∷ []) ≡ Tree (tree.to_index 5 (named 97 4) (from 0 6)))
-    × (read 1 (kind.Key key.KwWrapix ∷ sign mark.OpenParen ∷ kind.Number 5 ∷ sign mark.Comma ∷ letter 97 ∷ sign mark.CloseParen ∷ []) ≡ Tree (tree.wrap_index 5 (named 97 4) (from 0 6)))
-    × (read 1 (kind.Key key.KwBits ∷ sign mark.OpenParen ∷ letter 97 ∷ sign mark.Comma ∷ letter 98 ∷ sign mark.CloseParen ∷ []) ≡ Tree (tree.make_bits (97 ∷ []) (named 98 4) (from 0 6)))
+    (read 1 (kind.Key key.KwToix ∷ sign mark.OpenParen ∷ kind.Number 5 ∷ sign mark.Comma ∷ letter 97 ∷ sign mark.CloseParen ∷ []) ≡ Tree (node (form.ToIx 5 (named 97 4)) (from 0 6)))
+    × (read 1 (kind.Key key.KwWrapix ∷ sign mark.OpenParen ∷ kind.Number 5 ∷ sign mark.Comma ∷ letter 97 ∷ sign mark.CloseParen ∷ []) ≡ Tree (node (form.WrapIx 5 (named 97 4)) (from 0 6)))
+    × (read 1 (kind.Key key.KwBits ∷ sign mark.OpenParen ∷ letter 97 ∷ sign mark.Comma ∷ letter 98 ∷ sign mark.CloseParen ∷ []) ≡ Tree (node (form.MakeBits (97 ∷ []) (named 98 4)) (from 0 6)))
 
 -- set ( a , b , c )
 abbrev pub CallOfThree : Type 0
 CallOfThree =
     read 1 (kind.Key key.KwSet ∷ sign mark.OpenParen ∷ letter 97 ∷ sign mark.Comma ∷ letter 98 ∷ sign mark.Comma ∷ letter 99 ∷ sign mark.CloseParen ∷ [])
-    ≡ Tree (tree.set_field (named 97 2) (record { text = 98 ∷ []; span = from 4 5 }) (named 99 6) (from 0 8))
+    ≡ Tree (node (form.Set (named 97 2) (record { text = 98 ∷ []; span = from 4 5 }) (named 99 6)) (from 0 8))

@@ -6,3 +6,4 @@ pub mod Forms
 pub mod Reader
 pub mod Edges
 pub mod Examples
+pub mod FlatChain

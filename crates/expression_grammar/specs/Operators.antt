@@ -1,5 +1,5 @@
 -- The operators by their marks, and how tightly each binds.
-use Rattle.std.specs.Prelude.{ℕ, ◌==◌, Bool, if◌then◌else◌, Option, Some, None, is_some}
+use Rattle.std.specs.Prelude.{ℕ, ◌==◌, Bool, false, nat_lt, if◌then◌else◌, Option, Some, None, is_some}
 use Rattle.iv_words.specs.declared.Span.{Span}
 use Rattle.ivory_lexer.specs.declared.Token.{Token}
 use Rattle.ivory_lexer.specs.declared.TokenKind.{TokenKind}
@@ -80,6 +80,14 @@ operator n t = with_place (of_level n (binary_of t.kind)) t.span
 
 abbrev pub is_operator : ℕ → Token → Bool
 is_operator n t = is_some (operator n t)
+
+-- an operator of a level below this one
+abbrev pub below_level : ℕ → Option BinOp → Bool
+below_level n None = false
+below_level n (Some o) = nat_lt (looseness o) n
+
+abbrev pub binds_below : ℕ → Token → Bool
+binds_below n t = below_level n (binary_of t.kind)
 
 -- ---- before an operand
 

@@ -129,8 +129,11 @@ chain_reader zero operand = operand
 chain_reader (suc n) operand = spanned (λ (p : Expr × List Link) ts. tree.with_links p.0 p.1 (span_of ts))
     (chain_reader n operand >>= λ x. (λ links. (x, links)) <$> many (is_operator n) (link_reader n (chain_reader n operand)))
 
+abbrev pub both_arms : Reader Token Expr → Reader Token (Expr × Expr)
+both_arms expr = expr >>= λ a. after (mark_reader mark.Colon) ((λ b. (a, b)) <$> expr)
+
 abbrev pub arms_of : Reader Token Expr → Span → Reader Token (Expr × Expr)
-arms_of expr at = expr >>= λ a. after (mark_reader mark.Colon) ((λ b. (a, b)) <$> expr)
+arms_of expr at = both_arms expr
 
 abbrev pub arms_reader : Option (Reader Token Expr) → Reader Token (Expr × Expr)
 arms_reader inner = nested (symbol mark.Question) (option_map arms_of inner)

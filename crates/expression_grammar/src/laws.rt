@@ -14,7 +14,6 @@ pub fn an_expression_has_one_tree()
 
 /// Operators bind by their levels, and those of one level make one chain. A `-` before a number is its sign where an
 /// operand may stand, and else an operator.
-#[tactic(auto, unfolding(crate::specs::Reader::readers, crate::specs::Reader::primary_reader, crate::specs::Reader::postfix_reader, crate::specs::Reader::operand_reader, crate::specs::Reader::chain_reader, crate::specs::Reader::expression_reader, crate::specs::Tokens::span_of, reading::specs::Reader::many, reading::specs::Reader::front))]
 pub fn operators_are_read_so()
     ensures rise { LevelsRise }
     ensures fall { LevelsFall }
@@ -25,7 +24,6 @@ pub fn operators_are_read_so()
 {}
 
 /// A prefix operator, a `?` and a bracket open a level each, also in the last arm of a `?`. The earlier of two faults is told.
-#[tactic(auto, unfolding(crate::specs::Reader::readers, crate::specs::Reader::primary_reader, crate::specs::Reader::postfix_reader, crate::specs::Reader::operand_reader, crate::specs::Reader::chain_reader, crate::specs::Reader::expression_reader, crate::specs::Tokens::span_of, reading::specs::Reader::many, reading::specs::Reader::front))]
 pub fn nesting_is_counted_so()
     ensures prefix { PrefixNests }
     ensures choice { ChoiceNests }
@@ -37,7 +35,6 @@ pub fn nesting_is_counted_so()
 {}
 
 /// The trees of what is no operator, and their places.
-#[tactic(auto, unfolding(crate::specs::Reader::readers, crate::specs::Reader::primary_reader, crate::specs::Reader::postfix_reader, crate::specs::Reader::operand_reader, crate::specs::Reader::chain_reader, crate::specs::Reader::expression_reader, crate::specs::Tokens::span_of, reading::specs::Reader::many, reading::specs::Reader::front))]
 pub fn parts_are_read_so()
     ensures choice { ChoiceIsNode }
     ensures parentheses { ParenthesesAreNoNode }

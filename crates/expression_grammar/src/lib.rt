@@ -14,7 +14,7 @@ pub use laws::{
 };
 
 /// The forms of a primary expression that their first token tells, all but parentheses.
-#[derive(Clone, Copy, Debug, Drop, PartialEq, Eq)]
+#[derive(Clone, Copy)]
 pub enum PrimaryForm {
     Number,
     Negative,

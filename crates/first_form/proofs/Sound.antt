@@ -6,7 +6,7 @@ use Rattle.std.proofs.lemmas.Slice.Zip.{AllZip-long}
 use Rattle.ivory_tree.specs.Syntax.{ExprSyntax, Literal, CallSyntax, StmtSyntax, Call, ItemSyntax, BitsData, Struct, Global, Import, Procedure, ModuleSyntax}
 use Rattle.ivory_tree.specs.Names as tree
 use Rattle.ivory_tree.specs.TextLike.{TextLike}
-use Rattle.first_form.specs.Names.{IsName}
+use Rattle.ivory_lexer.specs.Tokens.{IsName}
 use Rattle.first_form.specs.Stands.{name_of, names_of, ByteStands, CallStands, StmtStands, ProcStands, Stands}
 use Rattle.first_form.specs.Valid.{AllDifferent, CallFits, Valid}
 use Rattle.first_form.specs.declared.first.FirstModule.{FirstModule}

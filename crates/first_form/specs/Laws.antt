@@ -2,7 +2,7 @@
 use Rattle.std.specs.Prelude.{◌≡◌}
 use Rattle.ivory_tree.specs.Syntax.{ModuleSyntax}
 use Rattle.ivory_tree.specs.TextLike.{TextLike}
-use Rattle.first_form.specs.Names.{IsName}
+use Rattle.ivory_lexer.specs.Tokens.{IsName}
 use Rattle.first_form.specs.Stands.{Stands}
 use Rattle.first_form.specs.Valid.{Valid}
 use Rattle.first_form.specs.declared.first.FirstModule.{FirstModule}

@@ -1,4 +1,3 @@
-pub mod Names
 pub mod Valid
 pub mod Stands
 pub mod Laws

@@ -1,6 +1,6 @@
 -- What holds of each module that a tree with names of the language stands for. The layers above rely on it.
 use Rattle.std.specs.Prelude.{◌≡◌, ◌≢◌, ℕ, ◌<◌, ◌^◌, List, ◌++◌, length, map, slice_get, Some, All, AllPairs}
-use Rattle.first_form.specs.Names.{IsName}
+use Rattle.ivory_lexer.specs.Tokens.{IsName}
 use Rattle.first_form.specs.declared.first.FirstModule.{FirstModule}
 use Rattle.first_form.specs.declared.first.FirstImport.{FirstImport}
 use Rattle.first_form.specs.declared.first.FirstCall.{FirstCall}

@@ -37,7 +37,7 @@ chosen name white line closed open_ decimal hex mark ten sixteen =
     (cond open_ (Some piece.OpenComment)
     (cond decimal (Some (piece.Number ten))
     (cond hex (Some (piece.Number sixteen))
-    (option_map piece.Symbol mark)))))))
+    (option_map piece.Mark mark)))))))
 
 -- ---- where only some of the tests can pass
 
@@ -54,7 +54,7 @@ only_number : (name white line closed open_ decimal hex : Bool) (mark : Option M
 only_number name white line closed open_ decimal hex mark ten sixteen n w l c o m = simp (n, w, l, c, o, m) refl
 
 only_symbol : (name white line closed open_ decimal hex : Bool) (mark : Option Mark) (ten sixteen : Option ℕ) → name ≡ false → white ≡ false → line ≡ false → closed ≡ false → open_ ≡ false → decimal ≡ false → hex ≡ false
-    → chosen name white line closed open_ decimal hex mark ten sixteen ≡ option_map piece.Symbol mark
+    → chosen name white line closed open_ decimal hex mark ten sixteen ≡ option_map piece.Mark mark
 only_symbol name white line closed open_ decimal hex mark ten sixteen n w l c o d x = simp (n, w, l, c, o, d, x) refl
 
 -- ---- what a first byte rules out
@@ -111,7 +111,7 @@ module _ (b : ℕ) where
 
   -- no letter, no digit, no white space and no comment
   pub symbol_class : begins_name b ≡ false → is_white b ≡ false → is_ascii_digit b ≡ false → (cs : List ℕ) → ((p : List ℕ → Bool) → is_after (45 ∷ 45 ∷ []) p (b ∷ cs) ≡ false) → ((p : List ℕ → Bool) → is_after (47 ∷ 42 ∷ []) p (b ∷ cs) ≡ false)
-      → piece_of (b ∷ cs) ≡ option_map piece.Symbol (look_up symbols (b ∷ cs))
+      → piece_of (b ∷ cs) ≡ option_map piece.Mark (look_up symbols (b ∷ cs))
   symbol_class n w d cs no_line no_block =
       only_symbol (is_name (b ∷ cs)) (is_run is_white (b ∷ cs)) (is_line_comment (b ∷ cs)) (is_block_comment (b ∷ cs)) (is_open_comment (b ∷ cs)) (is_run is_ascii_digit (b ∷ cs)) (is_hexadecimal (b ∷ cs)) (look_up symbols (b ∷ cs)) (in_range (digits_value 10 (b ∷ cs))) (in_range (digits_value 16 (drop 2 (b ∷ cs))))
       (not_run begins_name is_in_name b cs n)

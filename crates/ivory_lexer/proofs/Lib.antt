@@ -1,3 +1,4 @@
+pub mod Same
 pub mod Runs
 pub mod Tables
 pub mod Numbers

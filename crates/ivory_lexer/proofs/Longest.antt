@@ -92,7 +92,7 @@ two_at_most b c d cs = look_up_none (λ row. nat_le (length row) 2) symbols (b �
 
 -- fronts of b ∷ bs are symbols or nothing
 abbrev pub Symbols : ℕ → List ℕ → Type 0
-Symbols b bs = (cs r : List ℕ) → bs ≡ cs ++ r → piece_of (b ∷ cs) ≡ option_map piece.Symbol (look_up symbols (b ∷ cs))
+Symbols b bs = (cs r : List ℕ) → bs ≡ cs ++ r → piece_of (b ∷ cs) ≡ option_map piece.Mark (look_up symbols (b ∷ cs))
 
 module _ (b : ℕ) where
   -- the fronts of more bytes are no symbols
@@ -101,12 +101,12 @@ module _ (b : ℕ) where
 
   one_found : (bs : List ℕ) (o : Option Mark) → look_up symbols (b ∷ []) ≡ o → Symbols b bs → Short bs → Found (b ∷ bs) (one_symbol o)
   unfolding Short
-  one_found bs (Some mark) h each short = record { some = omega arith; within = omega arith; is = each [] bs refl ∙ ap (option_map piece.Symbol) h; most = short }
+  one_found bs (Some mark) h each short = record { some = omega arith; within = omega arith; is = each [] bs refl ∙ ap (option_map piece.Mark) h; most = short }
   one_found bs None h each short = λ f r e. all f r e
     where
       all : (f r : List ℕ) → b ∷ bs ≡ f ++ r → piece_of f ≡ None
       all [] r e = no_piece_empty
-      all (x ∷ []) r e = let same : b ≡ x = cc in ap (λ y. piece_of (y ∷ [])) (sym same) ∙ each [] bs refl ∙ ap (option_map piece.Symbol) h
+      all (x ∷ []) r e = let same : b ≡ x = cc in ap (λ y. piece_of (y ∷ [])) (sym same) ∙ each [] bs refl ∙ ap (option_map piece.Mark) h
       all (x ∷ y ∷ f) r e = short (x ∷ y ∷ f) r e (omega arith)
 
   two_found : (c : ℕ) (bs : List ℕ) (o : Option Mark) → look_up symbols (b ∷ c ∷ []) ≡ o → Symbols b (c ∷ bs) → Found (b ∷ c ∷ bs) (two_symbols o (one_symbol (look_up symbols (b ∷ []))))
@@ -114,7 +114,7 @@ module _ (b : ℕ) where
   two_found c bs (Some mark) h each = record {
     some = omega arith;
     within = omega arith;
-    is = each (c ∷ []) bs refl ∙ ap (option_map piece.Symbol) h;
+    is = each (c ∷ []) bs refl ∙ ap (option_map piece.Mark) h;
     most = λ f r e long.
         let w = past (b ∷ c ∷ []) bs f r e (omega arith) in
         ap piece_of w.1 ∙ longer w.0 r w.2 (omega (arith, ap length w.1));
@@ -122,14 +122,14 @@ module _ (b : ℕ) where
     where
       longer : (cs r : List ℕ) → bs ≡ cs ++ r → 0 < length cs → piece_of (b ∷ c ∷ cs) ≡ None
       longer [] r e some = absurd (omega arith)
-      longer (d ∷ cs) r e some = each (c ∷ d ∷ cs) r (ap (λ ys. c ∷ ys) e) ∙ ap (option_map piece.Symbol) (two_at_most b c d cs)
+      longer (d ∷ cs) r e some = each (c ∷ d ∷ cs) r (ap (λ ys. c ∷ ys) e) ∙ ap (option_map piece.Mark) (two_at_most b c d cs)
   two_found c bs None h each = one_found (c ∷ bs) (look_up symbols (b ∷ [])) refl each (λ f r e long.
       let w = past (b ∷ c ∷ []) bs f r e (omega arith) in
       ap piece_of w.1 ∙ none w.0 r w.2)
     where
       none : (cs r : List ℕ) → bs ≡ cs ++ r → piece_of (b ∷ c ∷ cs) ≡ None
-      none [] r e = each (c ∷ []) bs refl ∙ ap (option_map piece.Symbol) h
-      none (d ∷ cs) r e = each (c ∷ d ∷ cs) r (ap (λ ys. c ∷ ys) e) ∙ ap (option_map piece.Symbol) (two_at_most b c d cs)
+      none [] r e = each (c ∷ []) bs refl ∙ ap (option_map piece.Mark) h
+      none (d ∷ cs) r e = each (c ∷ d ∷ cs) r (ap (λ ys. c ∷ ys) e) ∙ ap (option_map piece.Mark) (two_at_most b c d cs)
 
   symbol_found : (bs : List ℕ) → Symbols b bs → Found (b ∷ bs) (scan_symbol (b ∷ bs))
   unfolding Short

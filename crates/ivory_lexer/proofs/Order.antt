@@ -1,12 +1,11 @@
 -- The tokens of every text stand in order, and its names are names.
-use Rattle.std.proofs.Common.{◌≡◌, ℕ, zero, suc, ◌+◌, ◌≤◌, ◌<◌, Bool, true, false, nat_lt, List, [], ◌∷◌, ◌++◌, length, Option, Some, None, Result, Ok, Err, cond, refl, sym, ap, ◌∙◌, subst, arith, length-append}
+use Rattle.std.proofs.Common.{◌≡◌, ℕ, ◌+◌, ◌≤◌, Bool, true, false, nat_lt, List, [], ◌∷◌, ◌++◌, length, Option, Some, None, Result, Ok, Err, cond, refl, subst, arith, length-append}
 use Rattle.std.specs.Prelude.{IfOk}
-use Rattle.std.specs.List.{list_all}
 use Rattle.std.specs.Char.{is_ascii_digit}
-use Rattle.std.specs.Str.Parse.{digits_value}
 use Rattle.std.proofs.lemmas.Bool.{ltb-false}
-use Rattle.ivory_lexer.specs.Table.{piece_of, is_name, is_run, is_white, in_range, look_up}
-use Rattle.ivory_lexer.specs.Texts.{Longest, gives, kind_of_name, TokensOf, end, dropped, taken}
+use Rattle.ivory_lexer.specs.Limits.{longest_name}
+use Rattle.ivory_lexer.specs.Table.{piece_of, is_name, is_run, is_white, look_up}
+use Rattle.ivory_lexer.specs.Texts.{gives, kind_of_name, TokensOf, end, dropped, taken}
 use Rattle.ivory_lexer.specs.Tokens.{IsKind, InOrder}
 use Rattle.ivory_lexer.specs.Words.{keywords}
 use Rattle.ivory_lexer.specs.declared.fault.LexFault.{LexFault}
@@ -36,21 +35,21 @@ named false false false false false false false (Some mark) ten sixteen e = absu
 name_piece : (bs : List ℕ) → piece_of bs ≡ Some piece.Name → is_name bs ≡ true
 name_piece bs e = named (is_name bs) (is_run is_white bs) (is_line_comment bs) (is_block_comment bs) (is_open_comment bs) (is_run is_ascii_digit bs) (is_hexadecimal bs) (look_up symbols bs) _ _ e
 
-name_kind : (at : ℕ) (front : List ℕ) (k : TokenKind) → is_name front ≡ true → (t : Bool) → nat_lt 28 (length front) ≡ t → (o : Option Key) → look_up keywords front ≡ o
+name_kind : (at : ℕ) (front : List ℕ) (k : TokenKind) → is_name front ≡ true → (t : Bool) → nat_lt longest_name (length front) ≡ t → (o : Option Key) → look_up keywords front ≡ o
     → cond {A = Result (Option TokenKind) LexFault} t (Err (fault.LongName at)) (Ok (Some (kind_of_name o front))) ≡ Ok (Some k) → IsKind k
 name_kind at front k n true long o l e = absurd cc
 name_kind at front k n false long None l e =
     let same : kind.Name front ≡ k = cc in
-    subst IsKind same (n, ltb-false 28 (length front) long, l)
+    subst IsKind same (n, ltb-false longest_name (length front) long, l)
 name_kind at front k n false long (Some key) l e = let same : kind.Key key ≡ k = cc in subst IsKind same tt
 
 pub given_kind : (at : ℕ) (front : List ℕ) (p : Piece) (k : TokenKind) → piece_of front ≡ Some p → gives at front p ≡ Ok (Some k) → IsKind k
 given_kind at front piece.Dropped k is e = absurd cc
 given_kind at front piece.OpenComment k is e = absurd cc
-given_kind at front piece.Name k is e = name_kind at front k (name_piece front is) (nat_lt 28 (length front)) refl (look_up keywords front) refl e
+given_kind at front piece.Name k is e = name_kind at front k (name_piece front is) (nat_lt longest_name (length front)) refl (look_up keywords front) refl e
 given_kind at front (piece.Number (Some value)) k is e = let same : kind.Number value ≡ k = cc in subst IsKind same tt
 given_kind at front (piece.Number None) k is e = absurd cc
-given_kind at front (piece.Symbol mark) k is e = let same : kind.Mark mark ≡ k = cc in subst IsKind same tt
+given_kind at front (piece.Mark mark) k is e = let same : kind.Mark mark ≡ k = cc in subst IsKind same tt
 
 earlier : (low from high : ℕ) (ts : List Token) → low ≤ from → InOrder from ts high → InOrder low ts high
 earlier low from high [] le o = omega arith

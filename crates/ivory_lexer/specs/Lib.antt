@@ -1,3 +1,5 @@
+pub mod Limits
+pub mod Same
 pub mod Words
 pub mod Table
 pub mod Texts

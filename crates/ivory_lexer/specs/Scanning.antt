@@ -44,11 +44,11 @@ scan_comment (b ∷ c ∷ bs) =
 
 abbrev pub one_symbol : Option Mark → Option (Piece × ℕ)
 one_symbol None = None
-one_symbol (Some mark) = Some (piece.Symbol mark, 1)
+one_symbol (Some mark) = Some (piece.Mark mark, 1)
 
 abbrev pub two_symbols : Option Mark → Option (Piece × ℕ) → Option (Piece × ℕ)
 two_symbols None shorter = shorter
-two_symbols (Some mark) shorter = Some (piece.Symbol mark, 2)
+two_symbols (Some mark) shorter = Some (piece.Mark mark, 2)
 
 abbrev pub scan_symbol : List ℕ → Option (Piece × ℕ)
 scan_symbol [] = None

@@ -78,4 +78,4 @@ piece_of bs =
     else (if is_after (codes "/*") is_open bs then Some piece.OpenComment
     else (if is_run is_ascii_digit bs then Some (piece.Number (in_range (digits_value 10 bs)))
     else (if is_after (codes "0x") (is_run is_ascii_hexdigit) bs then Some (piece.Number (in_range (digits_value 16 (drop 2 bs))))
-    else option_map piece.Symbol (look_up symbols bs)))))))
+    else option_map piece.Mark (look_up symbols bs)))))))

@@ -1,6 +1,7 @@
 -- The tokens of a text, or its first fault. A text is a row of pieces, each the longest at its place.
 -- Places are counted in bytes from 0.
 use Rattle.std.specs.Prelude.{◌≡◌, ℕ, ◌+◌, ◌<◌, nat_lt, List, [], ◌∷◌, ◌++◌, length, Option, Some, None, Result, Ok, Err, if◌then◌else◌, ◌⊎◌}
+use Rattle.ivory_lexer.specs.Limits.{longest_name}
 use Rattle.ivory_lexer.specs.Table.{piece_of, look_up}
 use Rattle.ivory_lexer.specs.Words.{keywords}
 use Rattle.ivory_lexer.specs.declared.fault.LexFault.{LexFault}
@@ -23,14 +24,14 @@ abbrev pub kind_of_name : Option Key → List ℕ → TokenKind
 kind_of_name None name = kind.Name name
 kind_of_name (Some key) name = kind.Key key
 
--- what a piece that is these bytes gives at a place: nothing, a token, or a fault; a name has 28 bytes at most
+-- what a piece that is these bytes gives at a place: nothing, a token, or a fault
 abbrev pub gives : ℕ → List ℕ → Piece → Result (Option TokenKind) LexFault
 gives at front piece.Dropped = Ok None
 gives at front piece.OpenComment = Err (fault.OpenComment at)
-gives at front piece.Name = if nat_lt 28 (length front) then Err (fault.LongName at) else Ok (Some (kind_of_name (look_up keywords front) front))
+gives at front piece.Name = if nat_lt longest_name (length front) then Err (fault.LongName at) else Ok (Some (kind_of_name (look_up keywords front) front))
 gives at front (piece.Number (Some value)) = Ok (Some (kind.Number value))
 gives at front (piece.Number None) = Err (fault.BigLiteral at)
-gives at front (piece.Symbol mark) = Ok (Some (kind.Mark mark))
+gives at front (piece.Mark mark) = Ok (Some (kind.Mark mark))
 
 abbrev pub token : ℕ → ℕ → TokenKind → Token
 token at n k = record { kind = k; span = record { start = at; end = at + n } }

@@ -1,14 +1,18 @@
 -- What holds of the tokens of every text.
 use Rattle.std.specs.Prelude.{◌≡◌, ℕ, ◌<◌, ◌≤◌, List, [], ◌∷◌, length, None, IsTrue}
+use Rattle.ivory_lexer.specs.Limits.{longest_name}
 use Rattle.ivory_lexer.specs.Table.{is_name, look_up}
 use Rattle.ivory_lexer.specs.Words.{keywords}
 use Rattle.ivory_lexer.specs.declared.token.Token.{Token}
 use Rattle.ivory_lexer.specs.declared.token.TokenKind.{TokenKind}
 use Rattle.ivory_lexer.specs.declared.token.TokenKind.TheVariants as kind
 
--- a name is one of the table, of at most 28 bytes, and no keyword
+-- a name of the language: letters, digits and `_`, not a digit first, not too long, and no keyword
+abbrev pub IsName : List ℕ → Type 0
+IsName name = IsTrue (is_name name) × (length name ≤ longest_name) × (look_up keywords name ≡ None)
+
 abbrev pub IsKind : TokenKind → Type 0
-IsKind (kind.Name name) = IsTrue (is_name name) × (length name ≤ 28) × (look_up keywords name ≡ None)
+IsKind (kind.Name name) = IsName name
 IsKind (kind.Number value) = Unit {0}
 IsKind (kind.Key key) = Unit {0}
 IsKind (kind.Mark mark) = Unit {0}

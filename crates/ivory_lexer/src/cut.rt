@@ -2,6 +2,7 @@
 
 ghost use Rattle.std.specs.Prelude.{◌≡◌, ◌≤◌, ◌<◌, ◌+◌, ◌++◌, ◌^◌, ℕ, List, length, take, drop, IfOk, OnOk};
 ghost use Rattle.ivory_lexer.specs.Answers.{Answers, IfFault};
+ghost use Rattle.ivory_lexer.specs.Limits.{source_limit};
 ghost use Rattle.ivory_lexer.specs.Scanning.{IsTaken, tokens_of_piece};
 ghost use Rattle.ivory_lexer.specs.Texts.{gives, TokensOf, LexFaultOf, ExactlyOne};
 ghost use Rattle.ivory_lexer.specs.Tokens.{InOrder};
@@ -17,6 +18,9 @@ use crate::token::{Token, TokenKind};
 use iv_words::{Memory, Seq, Span, Word};
 use std::alloc::Global;
 
+/// A module's text has at most so many bytes.
+pub const SOURCE_LIMIT: u64 = 262_144;
+
 /// The most bytes that a name has.
 const LONGEST_NAME: usize = 28;
 
@@ -30,9 +34,7 @@ fn name_kind(alloc: Global, name: &[u8], at: u32) -> Result<Option<TokenKind>, L
     if let Some(key) = key_of(name) {
         return Ok(Some(TokenKind::Key(key)));
     }
-    let mut text = Word::new(alloc);
-    text.extend_from_slice(name)?;
-    Ok(Some(TokenKind::Name(text)))
+    Ok(Some(TokenKind::Name(Word::from_slice(alloc, name)?)))
 }
 
 /// What a piece of these bytes gives at its place: nothing, a token, or a fault.
@@ -50,7 +52,7 @@ fn kind_of(
         Piece::Name => name_kind(alloc, front, at),
         Piece::Number(Some(value)) => Ok(Some(TokenKind::Number(value))),
         Piece::Number(None) => Err(LexFault::BigLiteral(at)),
-        Piece::Symbol(mark) => Ok(Some(TokenKind::Mark(mark))),
+        Piece::Mark(mark) => Ok(Some(TokenKind::Mark(mark))),
     }
 }
 
@@ -120,7 +122,7 @@ fn cut(alloc: Global, text: &[u8]) -> Result<Seq<Token>, LexFault>
 ///
 /// The text's first fault, or want of memory.
 pub fn lex(alloc: Global, text: &[u8]) -> Result<Seq<Token>, LexFault>
-    requires { length text.now ≤ 262144 }
+    requires { length text.now ≤ source_limit }
     ensures tokens { IfOk result (λ ts. TokensOf 0 text.now ts) }
     ensures each_token { (ts : List Token) → TokensOf 0 text.now ts → Answers result (Ok ts) }
     ensures fault { IfFault result (λ why. LexFaultOf 0 text.now why) }

@@ -1,7 +1,7 @@
 use iv_words::Memory;
 
 /// Why a text has no tokens. Each place is that of the fault's first byte, counted from 0.
-#[derive(Clone, Copy, Debug, Drop, PartialEq, Eq)]
+#[derive(Clone, Copy, Debug, Drop)]
 pub enum LexFault {
     /// No piece begins with this byte.
     BadByte(u32),

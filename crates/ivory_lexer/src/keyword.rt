@@ -1,15 +1,25 @@
-ghost use Rattle.std.specs.Prelude.{◌≡◌, length};
+ghost use Rattle.std.specs.Prelude.{◌≡◌, bytes_eq, length};
 ghost use Rattle.ivory_lexer.specs.Table.{look_up};
 ghost use Rattle.ivory_lexer.specs.Words.{keywords};
 ghost use Rattle.ivory_lexer.specs.Scanning.{of_length};
 
 use crate::key::Key;
 
+/// Whether the name is this text. Their first bytes tell most words apart.
+fn is_word(name: &[u8], text: &[u8]) -> bool
+    ensures { result ≡ bytes_eq name.now text.now }
+{
+    match (name, text) {
+        ([a, ..], [b, ..]) => a == b && name == text,
+        _ => name == text,
+    }
+}
+
 /// The first key whose text the name is.
 macro_rules! key_among {
     ($name:expr, $($text:literal => $key:ident,)*) => {{
         $(
-            if $name == $text.as_slice() {
+            if is_word($name, $text) {
                 return Some(Key::$key);
             }
         )*
@@ -17,7 +27,7 @@ macro_rules! key_among {
     }};
 }
 
-/// The keyword of this text, if it is one. Only keywords of its length are compared with it.
+/// The keyword of this text, if it is one. Only keywords of its length and first byte are compared with it.
 pub fn key_of(name: &[u8]) -> Option<Key>
     ensures { result ≡ look_up keywords name.now }
 {

@@ -16,7 +16,7 @@ mod symbol;
 mod tests;
 mod token;
 
-pub use cut::{lex, reads_in_one_way};
+pub use cut::{SOURCE_LIMIT, lex, reads_in_one_way};
 pub use fault::LexFault;
 pub use key::Key;
 pub use mark::Mark;

@@ -1,7 +1,7 @@
 use crate::mark::Mark;
 
 /// What a run of bytes is as a whole.
-#[derive(Clone, Copy, Debug, PartialEq, Eq)]
+#[derive(Clone, Copy)]
 pub enum Piece {
     /// White space or a comment.
     Dropped,
@@ -10,5 +10,5 @@ pub enum Piece {
     Name,
     /// A number, or none where it is 2^64 or more.
     Number(Option<u64>),
-    Symbol(Mark),
+    Mark(Mark),
 }

@@ -65,11 +65,11 @@ fn symbol(text: &[u8]) -> Option<(Piece, usize)>
 {
     if let [first, second, ..] = text {
         if let Some(mark) = double_mark(*first, *second) {
-            return Some((Piece::Symbol(mark), 2));
+            return Some((Piece::Mark(mark), 2));
         }
     }
     let (first, _) = text.split_first()?;
-    Some((Piece::Symbol(single_mark(*first)?), 1))
+    Some((Piece::Mark(single_mark(*first)?), 1))
 }
 
 /// The longest piece at the front of a text, and its length.

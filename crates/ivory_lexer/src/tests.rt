@@ -18,7 +18,7 @@ fn show_kind(alloc: Global, kind: &TokenKind) -> Result<String, Fail> {
 
 /// What `lex` answers, as one line.
 fn show(alloc: Global, text: &[u8]) -> Result<String, Fail> {
-    if text.len() > 262_144 {
+    if text.len() as u64 > SOURCE_LIMIT {
         return Ok(format!(in alloc; "too long")?);
     }
     let tokens = match lex(alloc, text) {
@@ -106,13 +106,5 @@ fn reads_a_text_of_the_greatest_length(rt: HostRuntime) -> Result<(), Fail> {
     text.resize(262_144, b' ')?;
     let line = show(rt.alloc(), &text)?;
     assert_eq!(rt; line.as_str(), "KwModule 0-6 m 7-8 Semicolon 8-9 ");
-    Ok(())
-}
-
-#[test]
-fn copies_tokens(rt: HostRuntime) -> Result<(), Fail> {
-    let tokens = lex(rt.alloc(), b"area a = 1;")?;
-    let same = tokens.copy(rt.alloc())?;
-    assert!(rt; same == tokens);
     Ok(())
 }

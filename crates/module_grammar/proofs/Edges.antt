@@ -1,13 +1,13 @@
 -- Where rows of two rules begin and end.
 use Rattle.std.proofs.Common.{◌≡◌, true, List, [], ◌∷◌, ◌++◌, inl, inr, sym, ap, ◌∙◌, subst, append_assoc, Bool, Option, Some, None}
-use Rattle.reading.specs.Row.{Mark, Row, Signs}
+use Rattle.reading.specs.Row.{Entry, Row, Signs}
 use Rattle.reading.specs.Language.{Language, Then, Optional, Many}
 use Rattle.reading.proofs.Rows.{back_nil, split_at}
 use Rattle.reading.proofs.Plain.{Plain, plain_last}
 use Rattle.reading.proofs.Starts.{StartsWith, either, either_first, either_second, many_first}
 
 -- the last mark of two rows is the last of the second, if that has one
-pub last_behind : {T : Type 0} (f g row : Row T) (m : Mark T) → f ++ g ≡ row ++ m ∷ [] → (g ≡ [] → ⊥) → (h : Row T) × (g ≡ h ++ m ∷ [])
+pub last_behind : {T : Type 0} (f g row : Row T) (m : Entry T) → f ++ g ≡ row ++ m ∷ [] → (g ≡ [] → ⊥) → (h : Row T) × (g ≡ h ++ m ∷ [])
 last_behind f g row m e filled = elim (split_at row m [] f g (sym e)) [
   | inl (h, here, there) ↦ (h, there)
   | inr (h, here, there) ↦ absurd (filled (back_nil h g there))
@@ -32,7 +32,7 @@ starts_many {T} {A} {B} {R} {Q} p q s t = record {
   nonempty = λ b (vs, f, g, e, r, x). (t vs).nonempty b (subst (Q vs b) (back_nil f g e) x);
 }
   where
-    at : (b : B) (vs : List A) (f g : Row T) (m : Mark T) (row : Row T) → m ∷ row ≡ f ++ g → Many R vs f → Q vs b g → either p q m.token ≡ true
+    at : (b : B) (vs : List A) (f g : Row T) (m : Entry T) (row : Row T) → m ∷ row ≡ f ++ g → Many R vs f → Q vs b g → either p q m.token ≡ true
     at b vs [] g m row e r x = either_second p q m.token ((t vs).first b m row (subst (Q vs b) (sym e) x))
     at b vs (n ∷ f) g m row e r x =
         let same : m ≡ n = cc in
@@ -46,7 +46,7 @@ starts_maybe {T} {A} {B} {P} {Q} p q s t = record {
   nonempty = λ b (o, f, g, e, r, x). (t o).nonempty b (subst (Q o b) (back_nil f g e) x);
 }
   where
-    at : (b : B) (o : Option A) (f g : Row T) (m : Mark T) (row : Row T) → m ∷ row ≡ f ++ g → Optional P o f → Q o b g → either p q m.token ≡ true
+    at : (b : B) (o : Option A) (f g : Row T) (m : Entry T) (row : Row T) → m ∷ row ≡ f ++ g → Optional P o f → Q o b g → either p q m.token ≡ true
     at b None f g m row e none x =
         let behind : m ∷ row ≡ g = e ∙ ap (λ y. y ++ g) none in
         either_second p q m.token ((t None).first b m row (subst (Q None b) (sym behind) x))

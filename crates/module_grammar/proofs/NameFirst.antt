@@ -10,7 +10,7 @@ use Rattle.ivory_lexer.specs.declared.Mark.TheVariants as mark
 use Rattle.ivory_tree.specs.Syntax.{Word}
 use Rattle.ivory_tree.specs.declared.Expr.{Expr}
 use Rattle.ivory_tree.specs.declared.CallText.{CallText}
-use Rattle.reading.specs.Row.{Mark, Row}
+use Rattle.reading.specs.Row.{Entry, Row}
 use Rattle.reading.specs.Language.{Terminal, Mapped}
 use Rattle.reading.specs.Reader.{Outcome, Done, Unexpected, TooDeep, below, many}
 use Rattle.reading.specs.Good.{Passed}
@@ -54,7 +54,7 @@ not_past (Done x r) t e (g, nothing) = let none : r ≡ [] = back_nil g r nothin
 not_past (Unexpected r) t e p = cc
 not_past (TooDeep r) t e p = cc
 
-flat : (d : ℕ) (x : Expr) (m : Mark Token) (row : Row Token) → Expression d x (m ∷ row) → is_name m.token ≡ true → m.depth ≤ d
+flat : (d : ℕ) (x : Expr) (m : Entry Token) (row : Row Token) → Expression d x (m ∷ row) → is_name m.token ≡ true → m.depth ≤ d
 flat d x m row r e = elim (dec_le m.depth d) [
   | yes h ↦ h
   | no h ↦
@@ -70,7 +70,7 @@ flat d x m row r e = elim (dec_le m.depth d) [
 pub not_open : (d : ℕ) → NotSecond is_name (is_mark mark.OpenParen) (Expression d)
 not_open d = record { second = λ x m n row r e. at x m n row r e (is_mark mark.OpenParen n.token) refl }
   where
-    at : (x : Expr) (m n : Mark Token) (row : Row Token) → Expression d x (m ∷ n ∷ row) → is_name m.token ≡ true → (b : Bool) → is_mark mark.OpenParen n.token ≡ b → b ≡ false
+    at : (x : Expr) (m n : Entry Token) (row : Row Token) → Expression d x (m ∷ n ∷ row) → is_name m.token ≡ true → (b : Bool) → is_mark mark.OpenParen n.token ≡ b → b ≡ false
     at x m n row r e true o =
         let w = some_found (word_of m.token) e in
         let first : m.token ≡ token (kind.Name w.0) m.token.span = is_worded w.0 m.token w.1 in
@@ -81,7 +81,7 @@ not_open d = record { second = λ x m n row r e. at x m n row r e (is_mark mark.
         absurd (not_past (expression 0 (m.token ∷ n.token ∷ [])) (marked mark.OpenParen n.token.span) done passed)
     at x m n row r e false o = refl
 
-named_chain : (n d : ℕ) (w : Word) (m : Mark Token) → Terminal d word_of w (m ∷ []) → (x : Expr) × spelled.Rule (spelled.chain n) d x (m ∷ [])
+named_chain : (n d : ℕ) (w : Word) (m : Entry Token) → Terminal d word_of w (m ∷ []) → (x : Expr) × spelled.Rule (spelled.chain n) d x (m ∷ [])
 named_chain zero d w m t = (_, spelled.lone (spelled.unprefixed (spelled.stepped (spelled.variable t) spelled.none)))
 named_chain (suc n) d w m t = let r = named_chain n d w m t in (_, spelled.linked r.1 spelled.none)
 
@@ -90,12 +90,12 @@ off_call {B} f limit d within =
     off_pair (not_second_mapped f (not_open d)) (λ b m row (x, r, is) e. let low = flat d x m row r e in omega (arith, low)) (λ b (x, r, is). (starts_expression d).nonempty x r)
     (λ t e.
     let w = some_found (word_of t) e in
-    let m : Mark Token = record { token = t; depth = d } in
+    let m : Entry Token = record { token = t; depth = d } in
     let c = named_chain spelled.operator_levels d w.0 m (m, refl, refl, w.1) in
     (f c.0, m, [], (c.0, spelled.plain c.1, refl), refl))
 
 call_shape : (limit d : ℕ) → d ≤ limit → (c : CallText) (row : Row Token) → CallOf d c row
-    → (m : Mark Token) × (n : Mark Token) × (g : Row Token) × (row ≡ m ∷ n ∷ g) × (is_name m.token ≡ true) × (is_mark mark.OpenParen n.token ≡ true) × (m.depth ≤ limit)
+    → (m : Entry Token) × (n : Entry Token) × (g : Row Token) × (row ≡ m ∷ n ∷ g) × (is_name m.token ≡ true) × (is_mark mark.OpenParen n.token ≡ true) × (m.depth ≤ limit)
 call_shape limit d within c row (make, (name, e, r, e1, (m, m_is, m_at, m_name), (args, (p, (at, f, g, e2, (n, n_is, n_at, n_open), closed), args_are), make_is)), is) =
     (m, n, g, e1 ∙ ap (λ y. y ++ r) m_is ∙ ap (λ y. m ∷ y) (e2 ∙ ap (λ y. y ++ g) n_is), name_passes m.token name m_name, symbol_passes mark.OpenParen n.token at n_open, omega arith)
 
@@ -104,7 +104,7 @@ at_call f limit d within = record {
   shape = λ b row (c, r, is). call_shape limit d within c row (from_call d c row r);
   same = λ t e.
       let w = some_found (word_of t) e in
-      let m : Mark Token = record { token = t; depth = d } in
+      let m : Entry Token = record { token = t; depth = d } in
       let name : Name = record { text = w.0; span = t.span } in
       let there : Terminal d name_of name (m ∷ []) = (m, refl, refl, ap (λ o. named o t.span) w.1) in
       let o = a_mark (suc d) mark.OpenParen in

@@ -137,12 +137,12 @@ pub plain_block : (d : ℕ) → Plain signs (Rule statements.block d)
 plain_block d = plain_as (from_block d) (plain_placed (plain_mapped tree.block (plain_enclosed mark.OpenBrace mark.CloseBrace refl (λ stmts _. stmts) (Many (Rule statements.statement (suc d))))))
 
 -- those that may end in an `else if`
-abbrev Ends : (s : statements.Symbol) → rows.Mark Token → Type 0
+abbrev Ends : (s : statements.Symbol) → rows.Entry Token → Type 0
 Ends statements.conditional m = is_mark mark.Minus m.token ≡ false
 Ends statements.alternative m = is_mark mark.Minus m.token ≡ false
 Ends _ m = Unit {0}
 
-choice_ends : (s : statements.Symbol) (d : ℕ) (v : Tree s) (all : Row Token) → Rule s d v all → (row : Row Token) (m : rows.Mark Token) → all ≡ row ++ m ∷ [] → Ends s m
+choice_ends : (s : statements.Symbol) (d : ℕ) (v : Tree s) (all : Row Token) → Rule s d v all → (row : Row Token) (m : rows.Entry Token) → all ≡ row ++ m ∷ [] → Ends s m
 choice_ends statements.conditional d v all (statements.if_alone {b} {e = f} {f = g} {g = h} t rx rb) row m e =
     let w = last_behind (f ++ g) h row m (append_assoc f g h ∙ e) (λ nothing. (starts_block d).nonempty b (subst (Rule statements.block d b) nothing rb)) in
     (plain_block d).ends b w.0 m (subst (Rule statements.block d b) w.1 rb)

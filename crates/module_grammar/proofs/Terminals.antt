@@ -23,9 +23,10 @@ use Rattle.reading.proofs.Starts.{StartsWith, starts_terminal, either, either_fi
 use Rattle.reading.proofs.Nesting.{Within, barred_within, read_within, Below, barred_there, read_there, Brackets}
 use Rattle.reading.proofs.Plain.{Plain, plain_terminal, plain_mapped, plain_either, plain_last}
 use Rattle.reading.proofs.Lists.{good_optional, good_closed}
-use Rattle.expression_grammar.specs.Tokens.{same_mark, symbol, keyword, is_mark, is_key, is_name, word_of, name_of, number_of, int_of, signs}
+use Rattle.ivory_lexer.specs.Same.{same_mark}
+use Rattle.expression_grammar.specs.Tokens.{symbol, keyword, is_mark, is_key, is_name, word_of, name_of, number_of, int_of, signs}
 use Rattle.expression_grammar.specs.Reader.{mark_reader, key_reader}
-use Rattle.expression_grammar.proofs.Places.{same_mark_self, same_key_self}
+use Rattle.ivory_lexer.proofs.Same.{same_mark_self, same_key_self}
 use Rattle.expression_grammar.proofs.Tokens.{token, marked, keyed, symbol_passes, symbol_some, keyword_passes, keyword_some, name_passes, word_passes, at_mark}
 use Rattle.expression_grammar.proofs.Samples.{nowhere}
 use Rattle.expression_grammar.proofs.Plain.{symbol_plain}
@@ -67,27 +68,27 @@ module _ (d : ℕ) where
 
 pub a_mark : (d : ℕ) (a : Mark) → (s : Span) × (row : Row Token) × Terminal d (symbol a) s row
 a_mark d a =
-    let m : rows.Mark Token = record { token = marked a nowhere; depth = d } in
+    let m : rows.Entry Token = record { token = marked a nowhere; depth = d } in
     (nowhere, m ∷ [], (m, refl, refl, symbol_some a (marked a nowhere) (same_mark_self a)))
 
 pub a_key : (d : ℕ) (a : Key) → (s : Span) × (row : Row Token) × Terminal d (keyword a) s row
 a_key d a =
-    let m : rows.Mark Token = record { token = keyed a nowhere; depth = d } in
+    let m : rows.Entry Token = record { token = keyed a nowhere; depth = d } in
     (nowhere, m ∷ [], (m, refl, refl, keyword_some a (keyed a nowhere) (same_key_self a)))
 
 pub a_number : (d : ℕ) → (n : ℕ) × (row : Row Token) × Terminal d number_of n row
 a_number d =
-    let m : rows.Mark Token = record { token = token (kind.Number 0) nowhere; depth = d } in
+    let m : rows.Entry Token = record { token = token (kind.Number 0) nowhere; depth = d } in
     (0, m ∷ [], (m, refl, refl, refl))
 
 pub a_name : (d : ℕ) → (n : Name) × (row : Row Token) × Terminal d name_of n row
 a_name d =
-    let m : rows.Mark Token = record { token = token (kind.Name []) nowhere; depth = d } in
+    let m : rows.Entry Token = record { token = token (kind.Name []) nowhere; depth = d } in
     (_, m ∷ [], (m, refl, refl, refl))
 
 pub a_width : (d : ℕ) → (w : ℕ × Bool) × (row : Row Token) × Terminal d width_of w row
 a_width d =
-    let m : rows.Mark Token = record { token = keyed key.KwBool nowhere; depth = d } in
+    let m : rows.Entry Token = record { token = keyed key.KwBool nowhere; depth = d } in
     ((1, true), m ∷ [], (m, refl, refl, refl))
 
 -- ---- before other tokens

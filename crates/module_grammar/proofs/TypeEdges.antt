@@ -115,7 +115,7 @@ pub starts_area : (d : ℕ) → StartsWith (either (is_mark mark.OpenBracket) (e
 starts_area d = starts_as (from_area d) (starts_either (is_mark mark.OpenBracket) (either (is_key key.KwStruct) begins_value) (starts_array d)
     (starts_either (is_key key.KwStruct) begins_value (starts_structure d) (starts_stored d)))
 
-area_ends : (d : ℕ) (v : AreaText) (all : Row Token) → Rule types.area d v all → (row : Row Token) (m : rows.Mark Token) → all ≡ row ++ m ∷ [] → is_mark mark.Minus m.token ≡ false
+area_ends : (d : ℕ) (v : AreaText) (all : Row Token) → Rule types.area d v all → (row : Row Token) (m : rows.Entry Token) → all ≡ row ++ m ∷ [] → is_mark mark.Minus m.token ≡ false
 area_ends d v all (types.stored {k} r) row m e = (plain_value d).ends k row m (subst (Rule types.value d k) e r)
 area_ends d v all (types.array {a} {f} {g} {h} {i} o u c r) row m e =
     let front : (f ++ (g ++ h)) ++ i ≡ f ++ (g ++ (h ++ i)) = append_assoc f (g ++ h) i ∙ ap (λ y. f ++ y) (append_assoc g h i) in

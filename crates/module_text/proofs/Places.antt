@@ -1,6 +1,7 @@
 -- Where a fault of a text lies, and where its tokens begin: within it.
 use Rattle.std.proofs.Common.{◌≡◌, ℕ, zero, suc, ◌+◌, ◌≤◌, ◌<◌, Bool, true, false, cond, nat_lt, List, [], ◌∷◌, ◌++◌, length, slice_get, refl, sym, ◌∙◌, ap, arith, Option, Some, None, Result, Ok, Err}
 use Rattle.std.proofs.lemmas.List.{length-append}
+use Rattle.ivory_lexer.specs.Limits.{longest_name}
 use Rattle.ivory_lexer.specs.Texts.{kind_of_name, gives, LexFaultOf, no_piece, refused, later}
 use Rattle.ivory_lexer.specs.Tokens.{InOrder}
 use Rattle.ivory_lexer.specs.Table.{look_up}
@@ -27,10 +28,10 @@ name_place at k why false e = absurd cc
 given_place : (at : ℕ) (front : List ℕ) (p : Piece) (why : LexFault) → gives at front p ≡ Err why → place_of why ≡ at
 given_place at front piece.Dropped why e = absurd cc
 given_place at front piece.OpenComment why e = let same : fault.OpenComment at ≡ why = cc in sym (ap place_of same)
-given_place at front piece.Name why e = name_place at (kind_of_name (look_up keywords front) front) why (nat_lt 28 (length front)) e
+given_place at front piece.Name why e = name_place at (kind_of_name (look_up keywords front) front) why (nat_lt longest_name (length front)) e
 given_place at front (piece.Number (Some value)) why e = absurd cc
 given_place at front (piece.Number None) why e = let same : fault.BigLiteral at ≡ why = cc in sym (ap place_of same)
-given_place at front (piece.Symbol mark) why e = absurd cc
+given_place at front (piece.Mark mark) why e = absurd cc
 
 fault_within : {at : ℕ} {text : List ℕ} {why : LexFault} → LexFaultOf at text why → place_of why ≤ at + length text
 fault_within (no_piece {at} {text} some none) = omega arith

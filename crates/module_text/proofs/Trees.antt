@@ -10,6 +10,7 @@ use Rattle.ivory_tree.specs.View.{module_of}
 use Rattle.ivory_tree.specs.declared.Module.{Module}
 use Rattle.reading.specs.Exact.{SpelledWithin}
 use Rattle.module_grammar.specs.Modules.{Text}
+use Rattle.module_grammar.specs.Parse.{levels}
 use Rattle.spelled_trees.specs.Trees.{OfTokens}
 use Rattle.spelled_trees.proofs.Modules.{of_tokens}
 use Rattle.module_text.specs.Verdicts.{Reads, Judged, reads}
@@ -17,7 +18,7 @@ use Rattle.module_text.specs.Answers.{Read}
 use Rattle.module_text.specs.Trees.{OfText}
 use Rattle.module_text.specs.declared.fault.TextFault.{TextFault}
 
-spelled_of_text : (text : List ℕ) (ts : List Token) (tree : Module) → TokensOf 0 text ts → SpelledWithin Text 32 tree ts → OfText text tree
+spelled_of_text : (text : List ℕ) (ts : List Token) (tree : Module) → TokensOf 0 text ts → SpelledWithin Text levels tree ts → OfText text tree
 spelled_of_text text ts tree cut spelled =
     let order : InOrder 0 ts (0 + length text) = in_order cut in
     let o : OfTokens ts (module_of tree) = of_tokens ts (0 + length text) tree order spelled in

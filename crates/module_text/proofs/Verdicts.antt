@@ -1,5 +1,6 @@
 -- Of a text one thing is true.
 use Rattle.std.proofs.Common.{◌≡◌, ℕ, ◌≤◌, ◌<◌, ◌⊎◌, List, length, Option, Some, refl, sym, ◌∙◌, ap, inl, inr, arith}
+use Rattle.ivory_lexer.specs.Limits.{source_limit}
 use Rattle.ivory_lexer.specs.Texts.{TokensOf, LexFaultOf}
 use Rattle.ivory_lexer.specs.declared.Token.{Token}
 use Rattle.ivory_lexer.specs.declared.LexFault.{LexFault}
@@ -20,13 +21,13 @@ of_answer text ts (DeepToken i) = Faulty (fault_line (fault_at text (token_start
 
 -- the three grounds of a verdict
 abbrev Long : List ℕ → Verdict → Type 0
-Long text v = (262144 < length text) × (v ≡ TooLong)
+Long text v = (source_limit < length text) × (v ≡ TooLong)
 
 abbrev Uncut : List ℕ → Verdict → Type 0
-Uncut text v = (length text ≤ 262144) × (why : LexFault) × (line : List ℕ) × LexFaultOf 0 text why × (lexical_line text why ≡ Some line) × (v ≡ Faulty line)
+Uncut text v = (length text ≤ source_limit) × (why : LexFault) × (line : List ℕ) × LexFaultOf 0 text why × (lexical_line text why ≡ Some line) × (v ≡ Faulty line)
 
 abbrev Parsed : List ℕ → Verdict → Type 0
-Parsed text v = (length text ≤ 262144) × (ts : List Token) × TokensOf 0 text ts × (v ≡ of_answer text ts (parse levels ts))
+Parsed text v = (length text ≤ source_limit) × (ts : List Token) × TokensOf 0 text ts × (v ≡ of_answer text ts (parse levels ts))
 
 ground : (text : List ℕ) (v : Verdict) → Judged text v → Long text v ⊎ (Uncut text v ⊎ Parsed text v)
 ground text v (too_long long) = inl (long, refl)

@@ -1,11 +1,11 @@
 -- What holds of the tree of a text.
 use Rattle.std.specs.Prelude.{ℕ, ◌*◌, ◌≤◌, List, length}
+use Rattle.ivory_lexer.specs.Tokens.{IsName}
 use Rattle.ivory_tree.specs.Nodes.{module_nodes, nodes_count}
 use Rattle.ivory_tree.specs.Formed.{Formed}
 use Rattle.ivory_tree.specs.TextLike.{TextLike}
 use Rattle.ivory_tree.specs.View.{module_of}
 use Rattle.ivory_tree.specs.declared.Module.{Module}
-use Rattle.spelled_trees.specs.Trees.{IsName}
 
 pub record OfText (text : List ℕ) (tree : Module) : Type 0 where
   -- its nodes have the form of a tree, and stand in their order

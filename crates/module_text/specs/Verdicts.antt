@@ -1,5 +1,6 @@
 -- What a text is: longer than a module's text may be, at fault, or the text of a tree.
 use Rattle.std.specs.Prelude.{◌≡◌, ℕ, ◌<◌, ◌≤◌, List, length, slice_get, Option, Some, None}
+use Rattle.ivory_lexer.specs.Limits.{source_limit}
 use Rattle.ivory_lexer.specs.Texts.{TokensOf, LexFaultOf}
 use Rattle.ivory_lexer.specs.declared.Token.{Token}
 use Rattle.ivory_lexer.specs.declared.LexFault.{LexFault}
@@ -8,16 +9,10 @@ use Rattle.ivory_tree.specs.declared.Module.{Module}
 use Rattle.reading.specs.Exact.{SpelledWithin, UnexpectedAt, TooDeepAt}
 use Rattle.expression_grammar.specs.Tokens.{signs}
 use Rattle.module_grammar.specs.Modules.{Text}
+use Rattle.module_grammar.specs.Parse.{levels}
 use Rattle.module_text.specs.declared.fault.Why.{Why}
 use Rattle.module_text.specs.declared.fault.Why.TheVariants.{BadByte, LongName, BigLiteral, OpenComment, Unexpected, TooDeep}
 use Rattle.module_text.specs.Lines.{fault_at, fault_line}
-
--- a module's text has at most so many bytes, and its tokens nest at most so deep
-abbrev pub source_limit : ℕ
-source_limit = 262144
-
-abbrev pub nesting_limit : ℕ
-nesting_limit = 32
 
 pub data Verdict : Type 0 where
   TooLong : Verdict
@@ -43,13 +38,13 @@ token_start text ts i = start_of text (slice_get ts i)
 
 -- no token before this one is the first that nests too deep
 abbrev pub NoneTooDeepBefore : List Token → ℕ → Type 0
-NoneTooDeepBefore ts i = (j : ℕ) → j < i → ¬ TooDeepAt Text signs nesting_limit ts j
+NoneTooDeepBefore ts i = (j : ℕ) → j < i → ¬ TooDeepAt Text signs levels ts j
 
 pub data Judged (text : List ℕ) : Verdict → Type 0 where
   too_long : source_limit < length text → Judged text TooLong
   not_cut : {why : LexFault} {line : List ℕ} → length text ≤ source_limit → LexFaultOf 0 text why → lexical_line text why ≡ Some line → Judged text (Faulty line)
   unexpected : {ts : List Token} {i : ℕ} → length text ≤ source_limit → TokensOf 0 text ts → UnexpectedAt Text ts i → NoneTooDeepBefore ts i
       → Judged text (Faulty (fault_line (fault_at text (token_start text ts i) Unexpected)))
-  too_deep : {ts : List Token} {i : ℕ} → length text ≤ source_limit → TokensOf 0 text ts → TooDeepAt Text signs nesting_limit ts i
+  too_deep : {ts : List Token} {i : ℕ} → length text ≤ source_limit → TokensOf 0 text ts → TooDeepAt Text signs levels ts i
       → Judged text (Faulty (fault_line (fault_at text (token_start text ts i) TooDeep)))
-  reads : {ts : List Token} {tree : Module} → length text ≤ source_limit → TokensOf 0 text ts → SpelledWithin Text nesting_limit tree ts → Judged text (Reads tree)
+  reads : {ts : List Token} {tree : Module} → length text ≤ source_limit → TokensOf 0 text ts → SpelledWithin Text levels tree ts → Judged text (Reads tree)

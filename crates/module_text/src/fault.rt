@@ -2,6 +2,7 @@
 
 ghost use Rattle.std.specs.Prelude.{◌≡◌, ◌≤◌, ◌+◌, ◌++◌, ◌∷◌, [], pos, length, OnOk, OnErr};
 ghost use Rattle.std.specs.Fmt.{signed_decimal};
+ghost use Rattle.ivory_lexer.specs.Limits.{source_limit};
 ghost use Rattle.iv_base.specs.Counts.{capped};
 ghost use Rattle.iv_base.specs.Sinks.{grown, GrewByPrefix, HasCause};
 ghost use Rattle.module_text.specs.Lines.{words_of, fault_line, fault_at};
@@ -43,7 +44,7 @@ impl Fault {
     /// The fault at a place of a text, in bytes from its start.
     pub fn at(text: &[u8], at: u32, why: Why) -> Fault
         requires within { at ≤ length text.now }
-        requires small { length text.now ≤ 262144 }
+        requires small { length text.now ≤ source_limit }
         ensures { result ≡ fault_at text.now at why }
     {
         let (line, column) = line_of(text, at);

@@ -5,4 +5,5 @@ mod fault;
 mod read;
 
 pub use fault::{Fault, TextFault, Why};
-pub use read::{SOURCE_LIMIT, read_module};
+pub use ivory_lexer::SOURCE_LIMIT;
+pub use read::read_module;

@@ -1,6 +1,7 @@
 //! Reads the text of a module as a tree.
 
 ghost use Rattle.std.specs.Prelude.{◌≡◌, ◌≤◌, length, IfOk};
+ghost use Rattle.ivory_lexer.specs.Limits.{source_limit};
 ghost use Rattle.ivory_lexer.specs.Texts.{TokensOf, LexFaultOf};
 ghost use Rattle.ivory_lexer.specs.Tokens.{InOrder};
 ghost use Rattle.module_text.specs.Answers.{Read, Cut};
@@ -11,12 +12,9 @@ ghost use Rattle.module_text.specs.declared.fault.TextFault.TheVariants.{At};
 
 use crate::fault::{Fault, TextFault, Why};
 use iv_words::Seq;
-use ivory_lexer::{LexFault, Token, lex};
+use ivory_lexer::{LexFault, SOURCE_LIMIT, Token, lex};
 use ivory_parser::{Module, SyntaxFault, parse};
 use std::alloc::Global;
-
-/// A module's text has at most so many bytes.
-pub const SOURCE_LIMIT: u64 = 262_144;
 
 /// The tree of a module's text.
 ///
@@ -44,7 +42,7 @@ fn read(alloc: Global, text: &[u8]) -> Result<Module, TextFault>
 
 /// The tokens of a text.
 fn cut(alloc: Global, text: &[u8]) -> Result<Seq<Token>, TextFault>
-    requires { length text.now ≤ 262144 }
+    requires { length text.now ≤ source_limit }
     ensures { Cut text.now result }
 {
     match lex(alloc, text) {
@@ -59,7 +57,7 @@ fn cut(alloc: Global, text: &[u8]) -> Result<Seq<Token>, TextFault>
 
 /// The tree that the tokens of a text spell.
 fn tree_of(alloc: Global, text: &[u8], tokens: &Seq<Token>) -> Result<Module, TextFault>
-    requires short { length text.now ≤ 262144 }
+    requires short { length text.now ≤ source_limit }
     requires cut { TokensOf 0 text.now tokens.now }
     requires in_order { InOrder 0 tokens.now (length text.now) }
     requires few { length tokens.now ≤ length text.now }
@@ -79,7 +77,7 @@ fn tree_of(alloc: Global, text: &[u8], tokens: &Seq<Token>) -> Result<Module, Te
 
 fn fault_at(text: &[u8], at: u32, why: Why) -> TextFault
     requires within { at ≤ length text.now }
-    requires short { length text.now ≤ 262144 }
+    requires short { length text.now ≤ source_limit }
     ensures { result ≡ At (fault_at text.now at why) }
 {
     TextFault::At(Fault::at(text, at, why))
@@ -87,7 +85,7 @@ fn fault_at(text: &[u8], at: u32, why: Why) -> TextFault
 
 /// Where a token begins in its text; past the last token, where the text ends.
 fn start_of(text: &[u8], tokens: &Seq<Token>, i: u32) -> u32
-    requires short { length text.now ≤ 262144 }
+    requires short { length text.now ≤ source_limit }
     requires in_order { InOrder 0 tokens.now (length text.now) }
     ensures start { result ≡ token_start text.now tokens.now i }
     ensures within { result ≤ length text.now }

@@ -1,6 +1,6 @@
 -- A choice by the first token.
 use Rattle.std.proofs.Common.{◌≡◌, ℕ, Bool, true, false, List, [], ◌∷◌, ◌++◌, inl, inr, refl, sym, ap, ◌∙◌, subst, cond, Option, Some, None}
-use Rattle.reading.specs.Row.{Mark, Row, Signs, tokens, starts}
+use Rattle.reading.specs.Row.{Entry, Row, Signs, tokens, starts}
 use Rattle.reading.specs.Language.{Language, Either, Headed}
 use Rattle.reading.specs.Reader.{Done, Unexpected, TooDeep, Reader, choose, head_of, headed, dispatch}
 use Rattle.reading.specs.Good.{Good, Passed, ReadFrom, StopsAt, DeepAt}
@@ -8,8 +8,8 @@ use Rattle.reading.proofs.Passing.{still_stops}
 use Rattle.reading.proofs.Starts.{StartsWith, StartsWithout, starts_apart}
 
 module _ {T A : Type 0} {signs : Signs T} (limit : ℕ) (c test : T → Bool) (P Q : Language T A) (p q : Reader T A) (gp : Good signs limit c P p) (gq : Good signs limit c Q q)
-    (first : (a : A) (m : Mark T) (row : Row T) → P a (m ∷ row) → test m.token ≡ true) (nonempty : (a : A) → P a [] → ⊥)
-    (other : (a : A) (m : Mark T) (row : Row T) → Q a (m ∷ row) → test m.token ≡ false)
+    (first : (a : A) (m : Entry T) (row : Row T) → P a (m ∷ row) → test m.token ≡ true) (nonempty : (a : A) → P a [] → ⊥)
+    (other : (a : A) (m : Entry T) (row : Row T) → Q a (m ∷ row) → test m.token ≡ false)
     (empty : (a : A) → Q a [] → (t : T) → test t ≡ true → c t ≡ true) where
   one_of : (ts : List T) (b : Bool) → starts test ts ≡ b → (choose test p q ts ≡ cond b (p ts) (q ts))
   one_of ts b e = ap (λ x. cond x (p ts) (q ts)) e
@@ -34,11 +34,11 @@ module _ {T A : Type 0} {signs : Signs T} (limit : ℕ) (c test : T → Bool) (P
   at_other a [] rest r stop = still_stops test c (empty a r) rest stop
   at_other a (m ∷ row) rest r stop = other a m row r
 
-  at_first_deep : (a : A) (row : Row T) (m : Mark T) (tail : Row T) (rest : List T) → P a (row ++ m ∷ tail) → starts test (tokens row ++ m.token ∷ rest) ≡ true
+  at_first_deep : (a : A) (row : Row T) (m : Entry T) (tail : Row T) (rest : List T) → P a (row ++ m ∷ tail) → starts test (tokens row ++ m.token ∷ rest) ≡ true
   at_first_deep a [] m tail rest r = first a m tail r
   at_first_deep a (n ∷ row) m tail rest r = first a n (row ++ m ∷ tail) r
 
-  at_other_deep : (a : A) (row : Row T) (m : Mark T) (tail : Row T) (rest : List T) → Q a (row ++ m ∷ tail) → starts test (tokens row ++ m.token ∷ rest) ≡ false
+  at_other_deep : (a : A) (row : Row T) (m : Entry T) (tail : Row T) (rest : List T) → Q a (row ++ m ∷ tail) → starts test (tokens row ++ m.token ∷ rest) ≡ false
   at_other_deep a [] m tail rest r = other a m tail r
   at_other_deep a (n ∷ row) m tail rest r = other a n (row ++ m ∷ tail) r
 
@@ -77,12 +77,12 @@ good_choice one other apart g s h n = good_choose g h s (starts_apart one apart 
 
 -- each rule begins with its own head
 pub record Heads {T A H : Type 0} (head : T → Option H) (R : H → Language T A) : Type 0 where
-  pub first : (h : H) (a : A) (m : Mark T) (row : Row T) → R h a (m ∷ row) → head m.token ≡ Some h
+  pub first : (h : H) (a : A) (m : Entry T) (row : Row T) → R h a (m ∷ row) → head m.token ≡ Some h
   pub nonempty : (h : H) (a : A) → R h a [] → ⊥
 
 -- this one begins with none, and where it has nothing, a head would go on
 pub record Headless {T A H : Type 0} (c : T → Bool) (head : T → Option H) (R : Language T A) : Type 0 where
-  pub first : (a : A) (m : Mark T) (row : Row T) → R a (m ∷ row) → head m.token ≡ None
+  pub first : (a : A) (m : Entry T) (row : Row T) → R a (m ∷ row) → head m.token ≡ None
   pub empty : (a : A) → R a [] → (t : T) (h : H) → head t ≡ Some h → c t ≡ true
 
 module _ {T A H : Type 0} {signs : Signs T} (limit : ℕ) (c : T → Bool) (head : T → Option H) (R : H → Language T A) (Other : Language T A)
@@ -119,11 +119,11 @@ module _ {T A H : Type 0} {signs : Signs T} (limit : ℕ) (c : T → Bool) (head
   no_head a [] rest r stop = no_head_at rest (headless.empty a r) stop
   no_head a (m ∷ row) rest r stop = headless.first a m row r
 
-  head_in : (h : H) (a : A) (row : Row T) (m : Mark T) (tail : Row T) (rest : List T) → R h a (row ++ m ∷ tail) → head_of head (tokens row ++ m.token ∷ rest) ≡ Some h
+  head_in : (h : H) (a : A) (row : Row T) (m : Entry T) (tail : Row T) (rest : List T) → R h a (row ++ m ∷ tail) → head_of head (tokens row ++ m.token ∷ rest) ≡ Some h
   head_in h a [] m tail rest r = heads.first h a m tail r
   head_in h a (n ∷ row) m tail rest r = heads.first h a n (row ++ m ∷ tail) r
 
-  no_head_in : (a : A) (row : Row T) (m : Mark T) (tail : Row T) (rest : List T) → Other a (row ++ m ∷ tail) → head_of head (tokens row ++ m.token ∷ rest) ≡ None
+  no_head_in : (a : A) (row : Row T) (m : Entry T) (tail : Row T) (rest : List T) → Other a (row ++ m ∷ tail) → head_of head (tokens row ++ m.token ∷ rest) ≡ None
   no_head_in a [] m tail rest r = headless.first a m tail r
   no_head_in a (n ∷ row) m tail rest r = headless.first a n (row ++ m ∷ tail) r
 

@@ -1,7 +1,7 @@
 -- A good reader of the whole text answers exactly.
 use Rattle.std.proofs.Common.{◌≡◌, ℕ, ◌≤◌, ◌<◌, ◌+◌, ◌-◌, Bool, List, [], ◌∷◌, ◌++◌, ◌⊎◌, inl, inr, refl, sym, ap, ◌∙◌, subst, append_assoc, arith, length, length-append}
 use native.Mathlib.Decide.{dec_le}
-use Rattle.reading.specs.Row.{Mark, Row, Signs, tokens, Shallow, Fits}
+use Rattle.reading.specs.Row.{Entry, Row, Signs, tokens, Shallow, Fits}
 use Rattle.reading.specs.Language.{Language}
 use Rattle.reading.specs.Reader.{Outcome, Done, Unexpected, TooDeep, Reader, ended, whole}
 use Rattle.reading.specs.Good.{Good, Passed}
@@ -10,9 +10,9 @@ use Rattle.reading.proofs.Rows.{append_nil, tokens_append, regroup}
 
 -- ---- rows
 
--- the first mark that lies deeper, if there is one
+-- the first entry that lies deeper, if there is one
 abbrev FirstDeep : {T : Type 0} → ℕ → Row T → Type 0
-FirstDeep {T} limit row = (b : Row T) × (n : Mark T) × (c : Row T) × (row ≡ b ++ n ∷ c) × Shallow limit b × (limit < n.depth)
+FirstDeep {T} limit row = (b : Row T) × (n : Entry T) × (c : Row T) × (row ≡ b ++ n ∷ c) × Shallow limit b × (limit < n.depth)
 
 shallow_or : {T : Type 0} (limit : ℕ) (row : Row T) → Shallow limit row ⊎ FirstDeep limit row
 shallow_or limit [] = inl tt
@@ -26,9 +26,9 @@ shallow_or limit (m ∷ row) = elim (dec_le m.depth limit) [
 
 -- the row of a list that is cut at a token
 abbrev Cut : {T : Type 0} → Row T → List T → T → Type 0
-Cut {T} row first t = (a : Row T) × (m : Mark T) × (b : Row T) × (row ≡ a ++ m ∷ b) × (tokens a ≡ first) × (m.token ≡ t)
+Cut {T} row first t = (a : Row T) × (m : Entry T) × (b : Row T) × (row ≡ a ++ m ∷ b) × (tokens a ≡ first) × (m.token ≡ t)
 
-cut_more : {T : Type 0} (m : Mark T) (row : Row T) (u : T) (first : List T) (t : T) → m.token ≡ u → Cut row first t → Cut (m ∷ row) (u ∷ first) t
+cut_more : {T : Type 0} (m : Entry T) (row : Row T) (u : T) (first : List T) (t : T) → m.token ≡ u → Cut row first t → Cut (m ∷ row) (u ∷ first) t
 cut_more m row u first t same (a, n, b, row_is, front_is, is) =
     (m ∷ a, n, b, ap (λ x. m ∷ x) row_is, ap (λ x. m.token ∷ x) front_is ∙ ap (λ x. x ∷ first) same, is)
 
@@ -41,8 +41,8 @@ cut (m ∷ row) (u ∷ first) t tail e =
     let back : tokens row ≡ first ++ t ∷ tail = cc in
     cut_more m row u first t same (cut row first t tail back)
 
--- what stands behind a mark is the same as far as the next token
-fits_next : {T : Type 0} (signs : Signs T) (n : Mark T) (c : Row T) (m : Mark T) (tail : Row T) (rest : List T) → Fits signs n (c ++ m ∷ tail) (tokens c ++ m.token ∷ rest)
+-- what stands behind an entry is the same as far as the next token
+fits_next : {T : Type 0} (signs : Signs T) (n : Entry T) (c : Row T) (m : Entry T) (tail : Row T) (rest : List T) → Fits signs n (c ++ m ∷ tail) (tokens c ++ m.token ∷ rest)
 fits_next signs n [] m tail rest = λ is. refl
 fits_next signs n (x ∷ c) m tail rest = λ is. refl
 
@@ -93,7 +93,7 @@ left (Unexpected r) = r
 left (TooDeep r) = r
 
 module _ {T A : Type 0} {signs : Signs T} {limit : ℕ} {c : T → Bool} {R : Language T A} {p : Reader T A} (g : Good signs limit c R p) where
-  deep_before : (x : A) (a : Row T) (m : Mark T) (b : Row T) (rest : List T) → FirstDeep limit a → R x (a ++ m ∷ b)
+  deep_before : (x : A) (a : Row T) (m : Entry T) (b : Row T) (rest : List T) → FirstDeep limit a → R x (a ++ m ∷ b)
       → (r : List T) × (p (tokens a ++ m.token ∷ rest) ≡ TooDeep r)
   deep_before x a m b rest (f, n, c, e, s, lt) r =
       let rf : R x (f ++ n ∷ (c ++ m ∷ b)) = subst (R x) (ap (λ y. y ++ m ∷ b) e ∙ append_assoc f (n ∷ c) (m ∷ b)) r in

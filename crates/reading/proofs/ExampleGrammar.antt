@@ -1,6 +1,6 @@
 -- The small grammar of specs/Example: its readers are good, so that its parser is exact.
 use Rattle.std.proofs.Common.{◌≡◌, ℕ, zero, suc, ◌+◌, ◌≤◌, Bool, true, false, List, [], ◌∷◌, ◌++◌, inl, inr, refl, sym, ap, ◌∙◌, subst, append_assoc, arith, Option, Some, None}
-use Rattle.reading.specs.Row.{Mark, Row, tokens, starts}
+use Rattle.reading.specs.Row.{Entry, Row, tokens, starts}
 use Rattle.reading.specs.Language.{Language, Terminal, Mapped, After, Either, Many, Separated, Closed, Nested, Prefixed, passing}
 use Rattle.reading.specs.Reader.{Reader}
 use Rattle.reading.specs.Good.{Good}
@@ -131,7 +131,7 @@ open_plain : (t u : Letter) → passing is_open t ≡ Some u → is_minus t ≡ 
 open_plain OpenBracket u e = refl
 open_plain _ u e = cc
 
-value_ends : (d : ℕ) (v : Value) (whole_row : Row Letter) → Spells value v d whole_row → (row : Row Letter) (m : Mark Letter) → whole_row ≡ row ++ m ∷ [] → is_minus m.token ≡ false
+value_ends : (d : ℕ) (v : Value) (whole_row : Row Letter) → Spells value v d whole_row → (row : Row Letter) (m : Entry Letter) → whole_row ≡ row ++ m ∷ [] → is_minus m.token ≡ false
 value_ends d v whole_row (named {n} {f} t) row m e = ends_in_terminal signs _ name_of name_plain n [] f row m t e
 value_ends d v whole_row (positive {n} {f} t) row m e = ends_in_terminal signs _ number_of number_plain n [] f row m t e
 value_ends d v whole_row (signed {n} {t} {f} {g} a b) row m e = ends_in_terminal signs _ number_of number_plain n f g row m b e
@@ -169,12 +169,12 @@ not_name _ e = cc
 
 -- ---- the readers
 
-a_name : (d : ℕ) → (x : Value) × (n : Mark Letter) × (g : Row Letter) × Spells value x d (n ∷ g) × (is_number n.token ≡ false)
-a_name d = let m : Mark Letter = record { token = Name 0; depth = d } in (Named 0, m, [], named (m, refl, refl, refl), refl)
+a_name : (d : ℕ) → (x : Value) × (n : Entry Letter) × (g : Row Letter) × Spells value x d (n ∷ g) × (is_number n.token ≡ false)
+a_name d = let m : Entry Letter = record { token = Name 0; depth = d } in (Named 0, m, [], named (m, refl, refl, refl), refl)
 
 no_value : (d : ℕ) (t : Letter) → (v : Value) × (row : Row Letter) × Inside d t v row
 no_value d t =
-    let m : Mark Letter = record { token = CloseBracket; depth = suc d } in
+    let m : Entry Letter = record { token = CloseBracket; depth = suc d } in
     (Nothing, m ∷ [], (([], CloseBracket), inl (CloseBracket, (m, refl, refl, refl), refl), refl))
 
 plain_inside : (d : ℕ) (t : Letter) → Plain signs (Inside d t)

@@ -1,6 +1,7 @@
 pub mod Rows
 pub mod Passing
 pub mod Same
+pub mod Outcomes
 pub mod Tokens
 pub mod Sequence
 pub mod Spans

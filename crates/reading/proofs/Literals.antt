@@ -1,6 +1,6 @@
 -- Rules in which a sign that stands first belongs to a number: what stands beside a prefix operator is such a rule.
 use Rattle.std.proofs.Common.{◌≡◌, ℕ, ◌≤◌, true, false, List, [], ◌∷◌, ◌++◌, inl, inr, refl, sym, ap, ◌∙◌, subst, arith, Option, Some}
-use Rattle.reading.specs.Row.{Mark, Row, Signs, tokens}
+use Rattle.reading.specs.Row.{Entry, Row, Signs, tokens}
 use Rattle.reading.specs.Language.{Language, Terminal, Mapped, Spanned, Then, After, Either}
 use Rattle.reading.proofs.SignChoice.{Others}
 use Rattle.reading.proofs.Starts.{StartsWithout}
@@ -19,8 +19,8 @@ others_literal {T} {N} {signs = signs} {limit} {d} select num within is_number p
   nonempty = λ a (o, f, g, e, (k, one, at, sel), q). let none : [] ≡ k ∷ g = e ∙ ap (λ x. x ++ g) one in cc;
   sign = λ t is.
       let w = picks t is in
-      let m : Mark T = record { token = t; depth = d } in
-      let n : Mark T = record { token = example.1; depth = d } in
+      let m : Entry T = record { token = t; depth = d } in
+      let n : Entry T = record { token = example.1; depth = d } in
       (example.0, m, n ∷ [], (w.0, m ∷ [], n ∷ [], refl, (m, refl, refl, w.1), (n, refl, refl, example.2)), refl);
 }
 
@@ -64,12 +64,12 @@ others_then {T} {A} {B} {signs} {limit} {P} {Q} s more = record {
       (x.0, w.1, w.2 ++ x.1, (w.0, w.1 ∷ w.2, x.1, refl, w.3, x.2), w.4);
 }
   where
-    more_behind : (m k : Mark T) (row f g : Row T) → m ≡ k → row ≡ f ++ g → (n : Mark T) × (h : Row T) × (f ≡ n ∷ h) × (signs.number n.token ≡ true) × (k.depth ≤ limit)
-        → (n : Mark T) × (h : Row T) × (row ≡ n ∷ h) × (signs.number n.token ≡ true) × (m.depth ≤ limit)
+    more_behind : (m k : Entry T) (row f g : Row T) → m ≡ k → row ≡ f ++ g → (n : Entry T) × (h : Row T) × (f ≡ n ∷ h) × (signs.number n.token ≡ true) × (k.depth ≤ limit)
+        → (n : Entry T) × (h : Row T) × (row ≡ n ∷ h) × (signs.number n.token ≡ true) × (m.depth ≤ limit)
     more_behind m k row f g first back (n, h, is, number, low) = (n, h ++ g, back ∙ ap (λ x. x ++ g) is, number, subst (λ x. x.depth ≤ limit) (sym first) low)
 
-    at : (a : A) (f : Row T) (m : Mark T) (row g : Row T) → m ∷ row ≡ f ++ g → P a f → signs.sign m.token ≡ true
-        → (n : Mark T) × (h : Row T) × (row ≡ n ∷ h) × (signs.number n.token ≡ true) × (m.depth ≤ limit)
+    at : (a : A) (f : Row T) (m : Entry T) (row g : Row T) → m ∷ row ≡ f ++ g → P a f → signs.sign m.token ≡ true
+        → (n : Entry T) × (h : Row T) × (row ≡ n ∷ h) × (signs.number n.token ≡ true) × (m.depth ≤ limit)
     at a [] m row g e p is = absurd (s.nonempty a p)
     at a (k ∷ f) m row g e p is =
         let first : m ≡ k = cc in

@@ -1,7 +1,7 @@
 -- One level deeper: where nothing may nest deeper, a token that would open a level is TooDeep, and else it is read with
 -- what follows it there.
 use Rattle.std.proofs.Common.{◌≡◌, ℕ, suc, ◌≤◌, ◌<◌, Bool, false, List, [], ◌∷◌, ◌++◌, refl, sym, ap, ◌∙◌, subst, arith, Option, Some, None}
-use Rattle.reading.specs.Row.{Mark, Row, Signs, tokens, Shallow}
+use Rattle.reading.specs.Row.{Entry, Row, Signs, tokens, Shallow}
 use Rattle.reading.specs.Language.{Language, Terminal, Then, Nested, Enclosed}
 use Rattle.reading.specs.Reader.{Done, Unexpected, TooDeep, Reader, bar, barred, nested, enclosed}
 use Rattle.reading.specs.Good.{Good, Passed, DeepAt}
@@ -24,13 +24,13 @@ module _ {T A B : Type 0} (signs : Signs T) (limit d : ℕ) (deeper : limit < d)
 
   bar_deep : (t : T) (ts : List T) (o : Option A) → select t ≡ o → (rest : List T) → barred {T = T} {A = A} {B = B} o (t ∷ ts) ≡ TooDeep rest → DeepAt signs limit (Then (Terminal d select) Q) (t ∷ ts) rest
   bar_deep t ts (Some a) e rest h =
-      let m : Mark T = record { token = t; depth = d } in
+      let m : Entry T = record { token = t; depth = d } in
       let w = rest_of a in
       let same : t ∷ ts ≡ rest = cc in
       ([], m, w.1, ts, w.0, (a, m ∷ [], w.1, refl, (m, refl, refl, e), w.2), tt, deeper, sym same, same, λ is. let isnt : signs.sign t ≡ false = plain t a e in cc)
   bar_deep t ts None e rest h = cc
 
-  no_shallow : (a : A) (b : B) (m n : Mark T) (f g row tail : Row T) → (m ∷ row) ++ tail ≡ f ++ g → f ≡ n ∷ [] → n.depth ≡ d → m.depth ≤ limit → ⊥
+  no_shallow : (a : A) (b : B) (m n : Entry T) (f g row tail : Row T) → (m ∷ row) ++ tail ≡ f ++ g → f ≡ n ∷ [] → n.depth ≡ d → m.depth ≤ limit → ⊥
   no_shallow a b m n f g row tail e h is s =
       let e2 : m ∷ (row ++ tail) ≡ n ∷ g = e ∙ ap (λ x. x ++ g) h in
       let same : m ≡ n = cc in
@@ -43,7 +43,7 @@ module _ {T A B : Type 0} (signs : Signs T) (limit d : ℕ) (deeper : limit < d)
       let same : m ≡ n = cc in
       let depths : m.depth ≡ n.depth = ap (λ x. x.depth) same in omega (arith, s.0)
 
-  bar_at : (b : B) (row : Row T) (m : Mark T) (tail : Row T) (rest : List T) → Then (Terminal d select) Q b (row ++ m ∷ tail) → Shallow limit row
+  bar_at : (b : B) (row : Row T) (m : Entry T) (tail : Row T) (rest : List T) → Then (Terminal d select) Q b (row ++ m ∷ tail) → Shallow limit row
       → bar {T = T} {A = A} {B = B} select (tokens row ++ m.token ∷ rest) ≡ TooDeep (m.token ∷ rest)
   bar_at b [] m tail rest (a, f, g, e, (n, h, is, sel), qg) s =
       let e2 : m ∷ tail ≡ n ∷ g = e ∙ ap (λ x. x ++ g) h in
@@ -51,7 +51,7 @@ module _ {T A B : Type 0} (signs : Signs T) (limit d : ℕ) (deeper : limit < d)
       ap (λ o. barred o (m.token ∷ rest)) (ap (λ x. select x.token) same ∙ sel)
   bar_at b (x ∷ row) m tail rest (a, f, g, e, (n, h, is, sel), qg) s = absurd (no_shallow a b x n f g row (m ∷ tail) e h is s.0)
 
-  bar_ends : (b : B) (row : Row T) (m : Mark T) → Then (Terminal d select) Q b (row ++ m ∷ []) → signs.sign m.token ≡ false
+  bar_ends : (b : B) (row : Row T) (m : Entry T) → Then (Terminal d select) Q b (row ++ m ∷ []) → signs.sign m.token ≡ false
   bar_ends b [] m (a, f, g, e, (n, h, is, sel), qg) =
       let e2 : m ∷ [] ≡ n ∷ g = e ∙ ap (λ x. x ++ g) h in
       let same : m ≡ n = cc in
@@ -63,7 +63,7 @@ module _ {T A B : Type 0} (signs : Signs T) (limit d : ℕ) (deeper : limit < d)
 
   bar_all : (a : A) (t : T) → select t ≡ Some a → Good signs limit c (Then (Terminal d select) Q) (bar select)
   bar_all a t is =
-      let m : Mark T = record { token = t; depth = d } in
+      let m : Entry T = record { token = t; depth = d } in
       let w = rest_of a in
       let any : Then (Terminal d select) Q w.0 (m ∷ w.1) = (a, m ∷ [], w.1, refl, (m, refl, refl, is), w.2) in
       record {
@@ -110,13 +110,13 @@ pub record Brackets {T O C : Type 0} (signs : Signs T) (c : T → Bool) (opens :
   pub closes_plain : (t : T) (o : C) → closes t ≡ Some o → signs.sign t ≡ false
   pub closes_stops : (t : T) (o : C) → closes t ≡ Some o → c t ≡ false
 
-stop_first : {T C : Type 0} (c : T → Bool) {d : ℕ} (closes : T → Option C) → ((t : T) (o : C) → closes t ≡ Some o → c t ≡ false) → (to : C) (m : Mark T) (row : Row T) → Terminal d closes to (m ∷ row) → c m.token ≡ false
+stop_first : {T C : Type 0} (c : T → Bool) {d : ℕ} (closes : T → Option C) → ((t : T) (o : C) → closes t ≡ Some o → c t ≡ false) → (to : C) (m : Entry T) (row : Row T) → Terminal d closes to (m ∷ row) → c m.token ≡ false
 stop_first c closes stops to m row (n, e, at, sel) = let same : m ≡ n = cc in stops m.token to (ap (λ x. closes x.token) same ∙ sel)
 
 pub good_enclosed : {T A B O C : Type 0} {signs : Signs T} {limit d : ℕ} {c : T → Bool} {R : Language T A} {opens : T → Option O} {closes : T → Option C} {inner : Option (Reader T A)}
     → (f : A → C → B) → Brackets signs c opens closes → (x : A) × (row : Row T) × R x row → Within signs limit d c R inner → Good signs limit none (Enclosed d opens closes f R) (enclosed opens closes f inner)
 good_enclosed {T} {d} {opens} {closes} f k example (barred_within deeper) =
-    let m : Mark T = record { token = k.closing.1; depth = suc d } in
+    let m : Entry T = record { token = k.closing.1; depth = suc d } in
     let shut : Terminal (suc d) closes k.closing.0 (m ∷ []) = (m, refl, refl, k.closing.2) in
     good_bar deeper (λ _. (f example.0 k.closing.0, example.1 ++ m ∷ [], (example.0, example.1, m ∷ [], refl, example.2, (k.closing.0, shut, refl)))) k.opens_plain
     (λ _. plain_last (λ x. plain_mapped (f x) (plain_terminal k.closes_plain)) (λ x b (to, t, is). terminal_nonempty closes [] t [] refl)) k.opening.0 k.opening.1 k.opening.2

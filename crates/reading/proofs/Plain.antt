@@ -1,11 +1,11 @@
 -- No row of a rule ends in a sign, at whatever nesting. It is needed where the rule nests too deep to be read at all.
 use Rattle.std.proofs.Common.{◌≡◌, ℕ, false, List, [], ◌∷◌, ◌++◌, inl, inr, sym, ap, ◌∙◌, subst, Option, Some, None}
-use Rattle.reading.specs.Row.{Mark, Row, Signs}
+use Rattle.reading.specs.Row.{Entry, Row, Signs}
 use Rattle.reading.specs.Language.{Language, Terminal, Given, Mapped, Spanned, Then, Either, Headed, Optional, Many, Prefixed}
 use Rattle.reading.proofs.Rows.{has_one, only_one, front_nil, back_nil, split_at}
 
 pub record Plain {T A : Type 0} (signs : Signs T) (R : Language T A) : Type 0 where
-  pub ends : (a : A) (row : Row T) (m : Mark T) → R a (row ++ m ∷ []) → signs.sign m.token ≡ false
+  pub ends : (a : A) (row : Row T) (m : Entry T) → R a (row ++ m ∷ []) → signs.sign m.token ≡ false
 
 pub plain_terminal : {T A : Type 0} {signs : Signs T} {d : ℕ} {select : T → Option A} → ((t : T) (a : A) → select t ≡ Some a → signs.sign t ≡ false) → Plain signs (Terminal {A = A} d select)
 plain_terminal {select} h = record {
@@ -27,7 +27,7 @@ plain_either p q = record { ends = λ a row m r. elim r [ inl w ↦ p.ends a row
 pub plain_as : {T A : Type 0} {signs : Signs T} {R S : Language T A} → ((a : A) (row : Row T) → S a row → R a row) → Plain signs R → Plain signs S
 plain_as from p = record { ends = λ a row m r. p.ends a row m (from a (row ++ m ∷ []) r) }
 
-optional_ends : {T A : Type 0} {signs : Signs T} {R : Language T A} → Plain signs R → (o : Option A) (row : Row T) (m : Mark T) → Optional R o (row ++ m ∷ []) → signs.sign m.token ≡ false
+optional_ends : {T A : Type 0} {signs : Signs T} {R : Language T A} → Plain signs R → (o : Option A) (row : Row T) (m : Entry T) → Optional R o (row ++ m ∷ []) → signs.sign m.token ≡ false
 optional_ends p None row m e = absurd (has_one row m [] e)
 optional_ends p (Some a) row m r = p.ends a row m r
 
@@ -55,7 +55,7 @@ plain_last {Q} q nonempty = record {
   ];
 }
 
-many_ends : {T A : Type 0} {signs : Signs T} {R : Language T A} → Plain signs R → (vs : List A) (row : Row T) (m : Mark T) → Many R vs (row ++ m ∷ []) → signs.sign m.token ≡ false
+many_ends : {T A : Type 0} {signs : Signs T} {R : Language T A} → Plain signs R → (vs : List A) (row : Row T) (m : Entry T) → Many R vs (row ++ m ∷ []) → signs.sign m.token ≡ false
 many_ends p [] row m e = absurd (has_one row m [] e)
 many_ends {R} p (v ∷ vs) row m (f, g, e, r, more) =
     elim (split_at row m [] f g e) [
@@ -67,7 +67,7 @@ pub plain_many : {T A : Type 0} {signs : Signs T} {R : Language T A} → Plain s
 plain_many p = record { ends = many_ends p }
 
 pub prefixed_ends : {T A B : Type 0} (signs : Signs T) (d : ℕ) (f : A → List T → B) (R : Language T A) → Plain signs R
-    → (b : B) (row : Row T) (m : Mark T) → Prefixed signs d f R b (row ++ m ∷ []) → signs.sign m.token ≡ false
+    → (b : B) (row : Row T) (m : Entry T) → Prefixed signs d f R b (row ++ m ∷ []) → signs.sign m.token ≡ false
 prefixed_ends signs d f R p b [] m (x, k, n, g, e, at, is, isnt, r, v) = cc
 prefixed_ends signs d f R p b (y ∷ row) m (x, k, n, g, e, at, is, isnt, r, v) = let back : row ++ m ∷ [] ≡ n ∷ g = cc in p.ends x row m (subst (R x) (sym back) r)
 
@@ -79,7 +79,7 @@ no_terminal select a (n, e, at, sel) = cc
 
 -- a row that ends in a token which is no sign
 pub ends_in_terminal : {T A : Type 0} (signs : Signs T) (d : ℕ) (select : T → Option A) → ((t : T) (a : A) → select t ≡ Some a → signs.sign t ≡ false)
-    → (a : A) (f h row : Row T) (m : Mark T) → Terminal d select a h → f ++ h ≡ row ++ m ∷ [] → signs.sign m.token ≡ false
+    → (a : A) (f h row : Row T) (m : Entry T) → Terminal d select a h → f ++ h ≡ row ++ m ∷ [] → signs.sign m.token ≡ false
 ends_in_terminal signs d select plain a f h row m t e = elim (split_at row m [] f h (sym e)) [
   | inl (k, here, there) ↦ (plain_terminal {signs = signs} plain).ends a k m (subst (Terminal d select a) there t)
   | inr (k, here, there) ↦ absurd (no_terminal select a (subst (Terminal d select a) (back_nil k h there) t))

@@ -1,6 +1,6 @@
 -- A prefix operator that is a sign before a number: one level deeper with its operand, and TooDeep where none may nest.
 use Rattle.std.proofs.Common.{◌≡◌, ℕ, suc, ◌≤◌, ◌<◌, Bool, true, false, not, List, [], ◌∷◌, ◌++◌, refl, sym, ap, ◌∙◌, subst, arith, cond, Option, Some}
-use Rattle.reading.specs.Row.{Mark, Row, Signs, tokens, Shallow, starts, Fits}
+use Rattle.reading.specs.Row.{Entry, Row, Signs, tokens, Shallow, starts, Fits}
 use Rattle.reading.specs.Language.{Language, Terminal, Spanned, After, Either, Prefixed}
 use Rattle.reading.specs.Reader.{Outcome, Done, Unexpected, TooDeep, Reader, accept, after, spanned, sign_first, prefixed, choose_sign}
 use Rattle.reading.specs.Good.{Good, Passed, ReadFrom, StopsAt, DeepAt}
@@ -28,10 +28,10 @@ sign_there signs t ts h =
     let is = flag_of signs t ts (signs.sign t) refl h in
     (is, flag_after signs t ts (starts signs.number ts) refl is h)
 
-module _ {T A B : Type 0} (signs : Signs T) (limit d : ℕ) (f : A → List T → B) (Q : Language T A) (example : (x : A) × (n : Mark T) × (g : Row T) × Q x (n ∷ g) × (signs.number n.token ≡ false)) where
-  sample : (t : T) → signs.sign t ≡ true → (b : B) × (m : Mark T) × (tail : Row T) × Prefixed signs d f Q b (m ∷ tail) × (m.token ≡ t) × (starts signs.number (tokens tail) ≡ false)
+module _ {T A B : Type 0} (signs : Signs T) (limit d : ℕ) (f : A → List T → B) (Q : Language T A) (example : (x : A) × (n : Entry T) × (g : Row T) × Q x (n ∷ g) × (signs.number n.token ≡ false)) where
+  sample : (t : T) → signs.sign t ≡ true → (b : B) × (m : Entry T) × (tail : Row T) × Prefixed signs d f Q b (m ∷ tail) × (m.token ≡ t) × (starts signs.number (tokens tail) ≡ false)
   sample t is =
-      let m : Mark T = record { token = t; depth = suc d } in
+      let m : Entry T = record { token = t; depth = suc d } in
       let (x, n, g, q, isnt) = example in
       (f x (tokens (m ∷ n ∷ g)), m, n ∷ g, (x, m, n, g, refl, refl, is, isnt, q, refl), refl, isnt)
 
@@ -47,7 +47,7 @@ module _ {T A B : Type 0} (signs : Signs T) (limit d : ℕ) (f : A → List T �
         let deep : suc d ≡ x.1.depth = refl in
         ([], x.1, x.2, ts, x.0, x.3, tt, omega arith, sym same, same, λ is. x.5 ∙ sym w.1)
 
-    barred_deep : (b : B) (row : Row T) (m : Mark T) (tail : Row T) (rest : List T) → Prefixed signs d f Q b (row ++ m ∷ tail) → Shallow limit row → tokens row ++ m.token ∷ rest ≡ m.token ∷ rest
+    barred_deep : (b : B) (row : Row T) (m : Entry T) (tail : Row T) (rest : List T) → Prefixed signs d f Q b (row ++ m ∷ tail) → Shallow limit row → tokens row ++ m.token ∷ rest ≡ m.token ∷ rest
     barred_deep b [] m tail rest r s = refl
     barred_deep b (y ∷ row) m tail rest (x, k, n, g, e, at, is, isnt, q, v) s =
         absurd (let same : y ≡ k = cc in let depths : y.depth ≡ k.depth = ap (λ z. z.depth) same in omega (arith, s.0))
@@ -71,17 +71,17 @@ module _ {T A B : Type 0} (signs : Signs T) (limit d : ℕ) (f : A → List T �
   -- where one level more may nest: over a rule of the operator and any operand, a number too
   module _ (c : T → Bool) (fits_in : suc d ≤ limit) (p : Reader T B) (Loose : Language T B) (gp : Good signs limit c Loose p)
       (to : (b : B) (row : Row T) → Prefixed signs d f Q b row → Loose b row)
-      (from : (b : B) (row : Row T) → Loose b row → (x : A) × (m : Mark T) × (n : Mark T) × (g : Row T) × (row ≡ m ∷ n ∷ g) × (m.depth ≡ suc d) × (signs.sign m.token ≡ true)
+      (from : (b : B) (row : Row T) → Loose b row → (x : A) × (m : Entry T) × (n : Entry T) × (g : Row T) × (row ≡ m ∷ n ∷ g) × (m.depth ≡ suc d) × (signs.sign m.token ≡ true)
       × Q x (n ∷ g) × (b ≡ f x (tokens row))) where
     -- a row whose second token is no number
-    told : (b : B) (m n : Mark T) (g : Row T) → Loose b (m ∷ n ∷ g) → signs.number n.token ≡ false → Prefixed signs d f Q b (m ∷ n ∷ g)
+    told : (b : B) (m n : Entry T) (g : Row T) → Loose b (m ∷ n ∷ g) → signs.number n.token ≡ false → Prefixed signs d f Q b (m ∷ n ∷ g)
     told b m n g r isnt =
         let w = from b (m ∷ n ∷ g) r in
         let e = w.4 in
         let second : n ≡ w.2 = cc in
         (w.0, w.1, w.2, w.3, e, w.5, w.6, ap (λ y. signs.number y.token) (sym second) ∙ isnt, w.7, w.8)
 
-    second_of : (t : T) (x y : Mark T) (row : Row T) (ts rest : List T) → sign_first signs ts ≡ true → ts ≡ tokens (x ∷ y ∷ row) ++ rest → signs.number y.token ≡ false
+    second_of : (t : T) (x y : Entry T) (row : Row T) (ts rest : List T) → sign_first signs ts ≡ true → ts ≡ tokens (x ∷ y ∷ row) ++ rest → signs.number y.token ≡ false
     second_of t x y row ts rest e h = (sign_there signs x.token (y.token ∷ (tokens row ++ rest)) (ap (sign_first signs) (sym h) ∙ e)).1
 
     read_done : (ts : List T) (b : B) (rest : List T) → sign_first signs ts ≡ true → p ts ≡ Done b rest → ReadFrom limit (Prefixed signs d f Q) ts b rest
@@ -110,7 +110,7 @@ module _ {T A B : Type 0} (signs : Signs T) (limit d : ℕ) (f : A → List T �
     read_too_deep : (ts rest : List T) → sign_first signs ts ≡ true → p ts ≡ TooDeep rest → DeepAt signs limit (Prefixed signs d f Q) ts rest
     read_too_deep ts rest e h = let w = gp.too_deep ts rest h in go w.0 w.1 w.2 w.3 w.4 w.5 w.6 w.7 w.8 w.9 w.10
       where
-        go : (row : Row T) (m : Mark T) (tail : Row T) (after : List T) (b : B) → Loose b (row ++ m ∷ tail) → Shallow limit row → limit < m.depth → rest ≡ m.token ∷ after
+        go : (row : Row T) (m : Entry T) (tail : Row T) (after : List T) (b : B) → Loose b (row ++ m ∷ tail) → Shallow limit row → limit < m.depth → rest ≡ m.token ∷ after
             → ts ≡ tokens row ++ rest → Fits signs m tail after → DeepAt signs limit (Prefixed signs d f Q) ts rest
         go [] m tail after b r sh lt at is fit =
             absurd (let w = from b (m ∷ tail) r in let e2 = w.4 in let same : m ≡ w.1 = cc in let deep : m.depth ≡ suc d = ap (λ z. z.depth) same ∙ w.5 in omega arith)
@@ -142,7 +142,7 @@ module _ {T A B O : Type 0} (signs : Signs T) (d : ℕ) (select : T → Option O
   to_loose picks b row (x, m, n, g, e, at, is, isnt, q, v) = let w = picks m.token is in (x, (w.0, m ∷ [], n ∷ g, e, (m, refl, at, w.1), q), v)
 
   from_loose : ((t : T) (o : O) → select t ≡ Some o → signs.sign t ≡ true) → ((x : A) → Q x [] → ⊥) → (b : B) (row : Row T) → Loose d select f Q b row
-      → (x : A) × (m : Mark T) × (n : Mark T) × (g : Row T) × (row ≡ m ∷ n ∷ g) × (m.depth ≡ suc d) × (signs.sign m.token ≡ true) × Q x (n ∷ g) × (b ≡ f x (tokens row))
+      → (x : A) × (m : Entry T) × (n : Entry T) × (g : Row T) × (row ≡ m ∷ n ∷ g) × (m.depth ≡ suc d) × (signs.sign m.token ≡ true) × Q x (n ∷ g) × (b ≡ f x (tokens row))
   from_loose is_sign nonempty b row (x, (o, h, [], e, t, q), v) = absurd (nonempty x q)
   from_loose is_sign nonempty b row (x, (o, h, n ∷ g, e, (m, one, at, sel), q), v) = (x, m, n, g, e ∙ ap (λ y. y ++ n ∷ g) one, at, is_sign m.token o sel, q, v)
 
@@ -150,7 +150,7 @@ module _ {T A B O : Type 0} (signs : Signs T) (d : ℕ) (select : T → Option O
 -- stand can begin with any sign, as a number does.
 pub good_prefixed : {T A B O : Type 0} {signs : Signs T} {limit d : ℕ} {c : T → Bool} {Q : Language T A} {S : Language T B} {inner : Option (Reader T A)} {s : Reader T B} (select : T → Option O) (f : A → List T → B)
     → ((t : T) (o : O) → select t ≡ Some o → signs.sign t ≡ true) → ((t : T) → signs.sign t ≡ true → (o : O) × (select t ≡ Some o)) → (t : T) × (signs.sign t ≡ true)
-    → ((x : A) → Q x [] → ⊥) → (x : A) × (n : Mark T) × (g : Row T) × Q x (n ∷ g) × (signs.number n.token ≡ false) → Plain signs Q
+    → ((x : A) → Q x [] → ⊥) → (x : A) × (n : Entry T) × (g : Row T) × Q x (n ∷ g) × (signs.number n.token ≡ false) → Plain signs Q
     → Within signs limit d c Q inner → Good signs limit c S s → Others signs limit S
     → Good signs limit c (Either (Prefixed signs d f Q) S) (choose_sign signs (prefixed select f inner) s)
 good_prefixed {signs} {limit} {d} {c} {Q} select f is_sign picks some_sign nonempty example plain (barred_within deeper) good others =

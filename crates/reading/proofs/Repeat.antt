@@ -1,6 +1,6 @@
 -- A rule any number of times.
 use Rattle.std.proofs.Common.{◌≡◌, ℕ, zero, suc, ◌≤◌, ◌<◌, Bool, true, false, List, [], ◌∷◌, ◌++◌, inl, inr, refl, sym, ap, ◌∙◌, subst, append_assoc, arith, cond, length, length-append}
-use Rattle.reading.specs.Row.{Mark, Row, Signs, tokens, Shallow, starts, Fits}
+use Rattle.reading.specs.Row.{Entry, Row, Signs, tokens, Shallow, starts, Fits}
 use Rattle.reading.specs.Language.{Language, Many}
 use Rattle.reading.specs.Reader.{Outcome, Done, Unexpected, TooDeep, Reader, and_then, mapped, many_up_to, many}
 use Rattle.reading.specs.Good.{Good, Passed, ReadFrom, StopsAt, DeepAt}
@@ -120,7 +120,7 @@ module _ {T A : Type 0} {signs : Signs T} (limit : ℕ) (c next test : T → Boo
   starts_at a [] rest r = absurd (begin.nonempty a r)
   starts_at a (m ∷ f) rest r = (begin.first a m f r, omega arith)
 
-  starts_in : (a : A) (row : Row T) (m : Mark T) (h : Row T) (rest : List T) → R a (row ++ m ∷ h) → starts test (tokens row ++ m.token ∷ rest) ≡ true
+  starts_in : (a : A) (row : Row T) (m : Entry T) (h : Row T) (rest : List T) → R a (row ++ m ∷ h) → starts test (tokens row ++ m.token ∷ rest) ≡ true
   starts_in a [] m h rest r = begin.first a m h r
   starts_in a (n ∷ row) m h rest r = begin.first a n (row ++ m ∷ h) r
 
@@ -133,7 +133,7 @@ module _ {T A : Type 0} {signs : Signs T} (limit : ℕ) (c next test : T → Boo
       next_at a [] h rest r e = absurd (begin.nonempty a r)
       next_at a (m ∷ f) h rest r e = e ∙ apart m.token (begin.first a m f r)
 
-  head_stops : (vs : List A) (n : Mark T) (g : Row T) (rest : List T) → Many R vs (n ∷ g) → next n.token ≡ false
+  head_stops : (vs : List A) (n : Entry T) (g : Row T) (rest : List T) → Many R vs (n ∷ g) → next n.token ≡ false
   head_stops [] n g rest e = cc
   head_stops (a ∷ vs) n g rest (f, h, e, rf, mg) = head_at f e rf
     where
@@ -178,11 +178,11 @@ module _ {T A : Type 0} {signs : Signs T} (limit : ℕ) (c next test : T → Boo
   turn_passed n rest (Unexpected r) w = w
   turn_passed n rest (TooDeep r) w = w
 
-  heads_stop : (vs : List A) (h : Row T) (m : Mark T) (tail : Row T) (rest : List T) → Many R vs (h ++ m ∷ tail) → starts next (tokens h ++ m.token ∷ rest) ≡ false
+  heads_stop : (vs : List A) (h : Row T) (m : Entry T) (tail : Row T) (rest : List T) → Many R vs (h ++ m ∷ tail) → starts next (tokens h ++ m.token ∷ rest) ≡ false
   heads_stop vs [] m tail rest w = head_stops vs m tail rest w
   heads_stop vs (x ∷ h) m tail rest w = head_stops vs x (h ++ m ∷ tail) rest w
 
-  passes : (n : ℕ) (vs : List A) (row : Row T) (m : Mark T) (tail : Row T) (rest : List T) → Many R vs (row ++ m ∷ tail) → Shallow limit row → length (tokens row ++ m.token ∷ rest) ≤ n
+  passes : (n : ℕ) (vs : List A) (row : Row T) (m : Entry T) (tail : Row T) (rest : List T) → Many R vs (row ++ m ∷ tail) → Shallow limit row → length (tokens row ++ m.token ∷ rest) ≤ n
       → Passed rest (many_up_to n test p (tokens row ++ m.token ∷ rest))
   passes n [] row m tail rest r s fits = absurd (has_one row m tail r)
   passes zero (a ∷ vs) row m tail rest (f, g, e, rf, mg) s room = absurd (omega (arith, length-append (tokens row) (m.token ∷ rest)))
@@ -203,7 +203,7 @@ module _ {T A : Type 0} {signs : Signs T} (limit : ℕ) (c next test : T → Boo
             (turn_passed n rest (p (tokens row ++ m.token ∷ rest)) (gp.passes a row m h rest rh s))
       ]
 
-  deep : (n : ℕ) (vs : List A) (row : Row T) (m : Mark T) (tail : Row T) (rest : List T) → Many R vs (row ++ m ∷ tail) → Shallow limit row
+  deep : (n : ℕ) (vs : List A) (row : Row T) (m : Entry T) (tail : Row T) (rest : List T) → Many R vs (row ++ m ∷ tail) → Shallow limit row
       → limit < m.depth → Fits signs m tail rest → length (tokens row ++ m.token ∷ rest) ≤ n → many_up_to n test p (tokens row ++ m.token ∷ rest) ≡ TooDeep (m.token ∷ rest)
   unfolding turn
   deep n [] row m tail rest r s lt fits room = absurd (has_one row m tail r)
@@ -227,7 +227,7 @@ module _ {T A : Type 0} {signs : Signs T} (limit : ℕ) (c next test : T → Boo
       deep_turn : (n : ℕ) → p (tokens row ++ m.token ∷ rest) ≡ TooDeep (m.token ∷ rest) → turn n (p (tokens row ++ m.token ∷ rest)) ≡ TooDeep (m.token ∷ rest)
       deep_turn n e = ap (turn n) e
 
-  ends : (vs : List A) (row : Row T) (m : Mark T) → Many R vs (row ++ m ∷ []) → limit < m.depth → signs.sign m.token ≡ false
+  ends : (vs : List A) (row : Row T) (m : Entry T) → Many R vs (row ++ m ∷ []) → limit < m.depth → signs.sign m.token ≡ false
   ends [] row m r lt = absurd (has_one row m [] r)
   ends (a ∷ vs) row m (f, g, e, rf, mg) lt =
       elim (split_at row m [] f g e) [

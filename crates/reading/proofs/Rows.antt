@@ -1,6 +1,6 @@
--- Rows one behind the other: their tokens, how deep they are, and where a mark of such a row stands.
+-- Rows one behind the other: their tokens, how deep they are, and where an entry of such a row stands.
 use Rattle.std.proofs.Common.{◌≡◌, ℕ, false, List, [], ◌∷◌, ◌++◌, ◌⊎◌, inl, inr, refl, sym, ap, append_assoc}
-use Rattle.reading.specs.Row.{Mark, Row, Signs, tokens, Shallow, Fits}
+use Rattle.reading.specs.Row.{Entry, Row, Signs, tokens, Shallow, Fits}
 
 pub append_nil : {A : Type 0} (xs : List A) → xs ++ [] ≡ xs
 append_nil [] = refl
@@ -48,8 +48,8 @@ module _ {T : Type 0} where
   shallow_back limit [] g s = s
   shallow_back limit (m ∷ f) g s = shallow_back limit f g s.1
 
-  -- a mark of two rows stands in the second or in the first
-  pub split_at : (row : Row T) (m : Mark T) (tail f g : Row T) → row ++ m ∷ tail ≡ f ++ g
+  -- an entry of two rows stands in the second or in the first
+  pub split_at : (row : Row T) (m : Entry T) (tail f g : Row T) → row ++ m ∷ tail ≡ f ++ g
       → ((h : Row T) × (row ≡ f ++ h) × (g ≡ h ++ m ∷ tail)) ⊎ ((h : Row T) × (f ≡ row ++ m ∷ h) × (tail ≡ h ++ g))
   split_at row m tail [] g e = inl (row, refl, sym e)
   split_at [] m tail (y ∷ f) g e =
@@ -64,10 +64,10 @@ module _ {T : Type 0} where
         | inr w ↦ inr (w.0, cc (w.1), w.2)
       ]
 
-  pub fits_append : (signs : Signs T) (m : Mark T) (tail g : Row T) (after : List T) → (tail ≡ [] → signs.sign m.token ≡ false) → Fits signs m tail after → Fits signs m (tail ++ g) after
+  pub fits_append : (signs : Signs T) (m : Entry T) (tail g : Row T) (after : List T) → (tail ≡ [] → signs.sign m.token ≡ false) → Fits signs m tail after → Fits signs m (tail ++ g) after
   fits_append signs m [] g after plain fits = λ is. let isnt : signs.sign m.token ≡ false = plain refl in cc
   fits_append signs m (x ∷ tail) g after plain fits = fits
 
-  pub fits_front : (signs : Signs T) (m : Mark T) (tail g : Row T) (after : List T) → (tail ≡ [] → signs.sign m.token ≡ false) → Fits signs m (tail ++ g) after → Fits signs m tail after
+  pub fits_front : (signs : Signs T) (m : Entry T) (tail g : Row T) (after : List T) → (tail ≡ [] → signs.sign m.token ≡ false) → Fits signs m (tail ++ g) after → Fits signs m tail after
   fits_front signs m [] g after plain fits = λ is. let isnt : signs.sign m.token ≡ false = plain refl in cc
   fits_front signs m (x ∷ tail) g after plain fits = fits

@@ -1,6 +1,6 @@
 -- One rule after another.
 use Rattle.std.proofs.Common.{◌≡◌, ℕ, ◌<◌, Bool, true, false, List, [], ◌∷◌, ◌++◌, inl, inr, refl, sym, ap, ◌∙◌, subst, append_assoc}
-use Rattle.reading.specs.Row.{Mark, Row, Signs, tokens, Shallow, starts, Fits}
+use Rattle.reading.specs.Row.{Entry, Row, Signs, tokens, Shallow, starts, Fits}
 use Rattle.reading.specs.Language.{Language, Then, After, Before}
 use Rattle.reading.specs.Reader.{Outcome, Done, Unexpected, TooDeep, Reader, and_then, ◌>>=◌, after, before}
 use Rattle.reading.specs.Good.{Good, Passed, ReadFrom, StopsAt, DeepAt}
@@ -10,7 +10,7 @@ use Rattle.reading.proofs.Same.{none, good_map}
 
 module _ {T A B : Type 0} {signs : Signs T} (limit : ℕ) (c wide : T → Bool) (P : Language T A) (Q : A → Language T B) (p : Reader T A) (q : A → Reader T B)
     (gp : Good signs limit c P p) (gq : (a : A) → Good signs limit wide (Q a) (q a))
-    (first : (a : A) (b : B) (m : Mark T) (g : Row T) → Q a b (m ∷ g) → c m.token ≡ false)
+    (first : (a : A) (b : B) (m : Entry T) (g : Row T) → Q a b (m ∷ g) → c m.token ≡ false)
     (empty : (a : A) (b : B) → Q a b [] → (t : T) → c t ≡ true → wide t ≡ true) where
   stops : (a : A) (b : B) (g : Row T) (rest : List T) → Q a b g → starts wide rest ≡ false → starts c (tokens g ++ rest) ≡ false
   stops a b [] rest qg e = still_stops c wide (empty a b qg) rest e
@@ -91,11 +91,11 @@ module _ {T A B : Type 0} {signs : Signs T} (limit : ℕ) (c wide : T → Bool) 
   passed_go ts rest (Unexpected r) e w = w
   passed_go ts rest (TooDeep r) e w = w
 
-  head_stops : (a : A) (b : B) (h : Row T) (m : Mark T) (tail : Row T) (rest : List T) → Q a b (h ++ m ∷ tail) → starts c (tokens h ++ m.token ∷ rest) ≡ false
+  head_stops : (a : A) (b : B) (h : Row T) (m : Entry T) (tail : Row T) (rest : List T) → Q a b (h ++ m ∷ tail) → starts c (tokens h ++ m.token ∷ rest) ≡ false
   head_stops a b [] m tail rest qg = first a b m tail qg
   head_stops a b (n ∷ h) m tail rest qg = first a b n (h ++ m ∷ tail) qg
 
-  passes : (b : B) (row : Row T) (m : Mark T) (tail : Row T) (rest : List T) → Then P Q b (row ++ m ∷ tail) → Shallow limit row
+  passes : (b : B) (row : Row T) (m : Entry T) (tail : Row T) (rest : List T) → Then P Q b (row ++ m ∷ tail) → Shallow limit row
       → Passed rest ((p >>= q) (tokens row ++ m.token ∷ rest))
   passes b row m tail rest (a, f, g, e, pf, qg) s =
       elim (split_at row m tail f g e) [
@@ -110,7 +110,7 @@ module _ {T A B : Type 0} {signs : Signs T} (limit : ℕ) (c wide : T → Bool) 
             passed_go (tokens row ++ m.token ∷ rest) rest (p (tokens row ++ m.token ∷ rest)) refl (gp.passes a row m h rest (subst (P a) here pf) s)
       ]
 
-  deep : (b : B) (row : Row T) (m : Mark T) (tail : Row T) (rest : List T) → Then P Q b (row ++ m ∷ tail) → Shallow limit row
+  deep : (b : B) (row : Row T) (m : Entry T) (tail : Row T) (rest : List T) → Then P Q b (row ++ m ∷ tail) → Shallow limit row
       → limit < m.depth → Fits signs m tail rest → (p >>= q) (tokens row ++ m.token ∷ rest) ≡ TooDeep (m.token ∷ rest)
   deep b row m tail rest (a, f, g, e, pf, qg) s lt fits =
       elim (split_at row m tail f g e) [
@@ -127,7 +127,7 @@ module _ {T A B : Type 0} {signs : Signs T} (limit : ℕ) (c wide : T → Bool) 
             ap (λ o. and_then o q) (gp.deep a row m h rest ph s lt fits_h)
       ]
 
-  ends : (b : B) (row : Row T) (m : Mark T) → Then P Q b (row ++ m ∷ []) → limit < m.depth → signs.sign m.token ≡ false
+  ends : (b : B) (row : Row T) (m : Entry T) → Then P Q b (row ++ m ∷ []) → limit < m.depth → signs.sign m.token ≡ false
   ends b row m (a, f, g, e, pf, qg) lt =
       elim (split_at row m [] f g e) [
         | inl (h, here, there) ↦ (gq a).ends b h m (subst (Q a b) there qg) lt
@@ -137,7 +137,7 @@ module _ {T A B : Type 0} {signs : Signs T} (limit : ℕ) (c wide : T → Bool) 
 
 pub good_then : {T A B : Type 0} {signs : Signs T} {limit : ℕ} {c wide : T → Bool} {P : Language T A} {Q : A → Language T B} {p : Reader T A} {q : A → Reader T B}
     → Good signs limit c P p → ((a : A) → Good signs limit wide (Q a) (q a))
-    → ((a : A) (b : B) (m : Mark T) (g : Row T) → Q a b (m ∷ g) → c m.token ≡ false)
+    → ((a : A) (b : B) (m : Entry T) (g : Row T) → Q a b (m ∷ g) → c m.token ≡ false)
     → ((a : A) (b : B) → Q a b [] → (t : T) → c t ≡ true → wide t ≡ true)
     → Good signs limit wide (Then P Q) (p >>= q)
 good_then {limit} {c} {wide} {P} {Q} {p} {q} gp gq first empty = record {
@@ -162,6 +162,6 @@ good_after gp gq = good_ended_then gp (λ _. gq)
 
 -- the second rule has a token at least, with which the first does not go on
 pub good_before : {T A B : Type 0} {signs : Signs T} {limit : ℕ} {c wide : T → Bool} {P : Language T A} {Q : Language T B} {p : Reader T A} {q : Reader T B}
-    → Good signs limit c P p → Good signs limit wide Q q → ((b : B) (m : Mark T) (g : Row T) → Q b (m ∷ g) → c m.token ≡ false) → ((b : B) → Q b [] → ⊥)
+    → Good signs limit c P p → Good signs limit wide Q q → ((b : B) (m : Entry T) (g : Row T) → Q b (m ∷ g) → c m.token ≡ false) → ((b : B) → Q b [] → ⊥)
     → Good signs limit wide (Before P Q) (before p q)
 good_before gp gq first nonempty = good_then gp (λ a. good_map (λ _. a) gq) (λ a b m g w. first w.0 m g w.1) (λ a b w t e. absurd (nonempty w.0 w.1))

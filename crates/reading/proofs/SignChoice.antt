@@ -1,6 +1,6 @@
 -- A choice by whether a sign stands that no number follows: there it is a prefix operator, before a number its sign.
 use Rattle.std.proofs.Common.{◌≡◌, ℕ, ◌≤◌, ◌<◌, Bool, true, false, not, List, [], ◌∷◌, ◌++◌, inl, inr, refl, sym, ap, ◌∙◌, subst, arith, cond}
-use Rattle.reading.specs.Row.{Mark, Row, Signs, tokens, Shallow, starts, Fits}
+use Rattle.reading.specs.Row.{Entry, Row, Signs, tokens, Shallow, starts, Fits}
 use Rattle.reading.specs.Language.{Language, Either}
 use Rattle.reading.specs.Reader.{Done, Unexpected, TooDeep, Reader, sign_first, choose_sign}
 use Rattle.reading.specs.Good.{Good, Passed, ReadFrom, StopsAt, DeepAt}
@@ -11,22 +11,22 @@ pub record GoodAtSign {T A : Type 0} (signs : Signs T) (limit : ℕ) (goes_on : 
   pub unexpected : (ts rest : List T) → sign_first signs ts ≡ true → p ts ≡ Unexpected rest → StopsAt limit R ts rest
   pub too_deep : (ts rest : List T) → sign_first signs ts ≡ true → p ts ≡ TooDeep rest → DeepAt signs limit R ts rest
   pub complete : (a : A) (row : Row T) (rest : List T) → R a row → Shallow limit row → starts goes_on rest ≡ false → p (tokens row ++ rest) ≡ Done a rest
-  pub passes : (a : A) (row : Row T) (m : Mark T) (tail : Row T) (rest : List T) → R a (row ++ m ∷ tail) → Shallow limit row
+  pub passes : (a : A) (row : Row T) (m : Entry T) (tail : Row T) (rest : List T) → R a (row ++ m ∷ tail) → Shallow limit row
       → sign_first signs (tokens row ++ m.token ∷ rest) ≡ true → Passed rest (p (tokens row ++ m.token ∷ rest))
   pub passes_first : (t : T) (rest : List T) → sign_first signs (t ∷ rest) ≡ true → Passed rest (p (t ∷ rest))
-  pub deep : (a : A) (row : Row T) (m : Mark T) (tail : Row T) (rest : List T) → R a (row ++ m ∷ tail) → Shallow limit row
+  pub deep : (a : A) (row : Row T) (m : Entry T) (tail : Row T) (rest : List T) → R a (row ++ m ∷ tail) → Shallow limit row
       → limit < m.depth → Fits signs m tail rest → sign_first signs (tokens row ++ m.token ∷ rest) ≡ true → p (tokens row ++ m.token ∷ rest) ≡ TooDeep (m.token ∷ rest)
-  pub ends : (a : A) (row : Row T) (m : Mark T) → R a (row ++ m ∷ []) → limit < m.depth → signs.sign m.token ≡ false
+  pub ends : (a : A) (row : Row T) (m : Entry T) → R a (row ++ m ∷ []) → limit < m.depth → signs.sign m.token ≡ false
 
 -- each row begins with a sign that no number follows
 pub record Operators {T A : Type 0} (signs : Signs T) (R : Language T A) : Type 0 where
-  pub shape : (a : A) (row : Row T) → R a row → (m : Mark T) × (n : Mark T) × (g : Row T) × (row ≡ m ∷ n ∷ g) × (signs.sign m.token ≡ true) × (signs.number n.token ≡ false)
+  pub shape : (a : A) (row : Row T) → R a row → (m : Entry T) × (n : Entry T) × (g : Row T) × (row ≡ m ∷ n ∷ g) × (signs.sign m.token ≡ true) × (signs.number n.token ≡ false)
 
 -- where a row begins with a sign, a number follows; there is a row for each sign, so that a sign begins something
 pub record Others {T A : Type 0} (signs : Signs T) (limit : ℕ) (S : Language T A) : Type 0 where
-  pub shape : (a : A) (m : Mark T) (row : Row T) → S a (m ∷ row) → signs.sign m.token ≡ true → (n : Mark T) × (g : Row T) × (row ≡ n ∷ g) × (signs.number n.token ≡ true) × (m.depth ≤ limit)
+  pub shape : (a : A) (m : Entry T) (row : Row T) → S a (m ∷ row) → signs.sign m.token ≡ true → (n : Entry T) × (g : Row T) × (row ≡ n ∷ g) × (signs.number n.token ≡ true) × (m.depth ≤ limit)
   pub nonempty : (a : A) → S a [] → ⊥
-  pub sign : (t : T) → signs.sign t ≡ true → (a : A) × (m : Mark T) × (tail : Row T) × S a (m ∷ tail) × (m.token ≡ t)
+  pub sign : (t : T) → signs.sign t ≡ true → (a : A) × (m : Entry T) × (tail : Row T) × S a (m ∷ tail) × (m.token ≡ t)
 
 pub sign_flag : {T : Type 0} (signs : Signs T) (t : T) (ts : List T) (b c : Bool) → signs.sign t ≡ b → starts signs.number ts ≡ c → sign_first signs (t ∷ ts) ≡ cond b (not c) false
 sign_flag signs t ts b c e h = ap (λ x. cond x (not (starts signs.number ts)) false) e ∙ ap (λ y. cond b (not y) false) h
@@ -54,8 +54,8 @@ module _ {T A : Type 0} {signs : Signs T} (limit : ℕ) (c : T → Bool) (P S : 
       let w = operators.shape a row r in
       ap (λ x. sign_first signs (tokens x ++ rest)) w.3 ∙ sign_flag signs w.0.token (w.1.token ∷ (tokens w.2 ++ rest)) true false w.4 w.5
 
-  -- where at least one mark stands before m
-  operator_on_in : (a : A) (x : Mark T) (row : Row T) (m : Mark T) (tail : Row T) (rest : List T) → P a ((x ∷ row) ++ m ∷ tail) → sign_first signs (tokens (x ∷ row) ++ m.token ∷ rest) ≡ true
+  -- where at least one entry stands before m
+  operator_on_in : (a : A) (x : Entry T) (row : Row T) (m : Entry T) (tail : Row T) (rest : List T) → P a ((x ∷ row) ++ m ∷ tail) → sign_first signs (tokens (x ∷ row) ++ m.token ∷ rest) ≡ true
   operator_on_in a x [] m tail rest r =
       let w = operators.shape a (x ∷ m ∷ tail) r in
       let e = w.3 in
@@ -69,8 +69,8 @@ module _ {T A : Type 0} {signs : Signs T} (limit : ℕ) (c : T → Bool) (P S : 
       let second : y ≡ w.1 = cc in
       sign_flag signs x.token (y.token ∷ (tokens row ++ m.token ∷ rest)) true false (ap (λ z. signs.sign z.token) first ∙ w.4) (ap (λ z. signs.number z.token) second ∙ w.5)
 
-  other_head : (a : A) (x : Mark T) (row : Row T) (ts : List T) (b : Bool) → signs.sign x.token ≡ b → S a (x ∷ row)
-      → ((n : Mark T) (g : Row T) → row ≡ n ∷ g → starts signs.number ts ≡ signs.number n.token) → sign_first signs (x.token ∷ ts) ≡ false
+  other_head : (a : A) (x : Entry T) (row : Row T) (ts : List T) (b : Bool) → signs.sign x.token ≡ b → S a (x ∷ row)
+      → ((n : Entry T) (g : Row T) → row ≡ n ∷ g → starts signs.number ts ≡ signs.number n.token) → sign_first signs (x.token ∷ ts) ≡ false
   other_head a x row ts true e r follows =
       let w = others.shape a x row r e in
       sign_flag signs x.token ts true true e (follows w.0 w.1 w.2 ∙ w.3)
@@ -80,12 +80,12 @@ module _ {T A : Type 0} {signs : Signs T} (limit : ℕ) (c : T → Bool) (P S : 
   other_off a [] rest r = absurd (others.nonempty a r)
   other_off a (x ∷ row) rest r = other_head a x row (tokens row ++ rest) (signs.sign x.token) refl r (λ n g e. ap (λ y. starts signs.number (tokens y ++ rest)) e)
 
-  other_off_in : (a : A) (x : Mark T) (row : Row T) (m : Mark T) (tail : Row T) (rest : List T) → S a ((x ∷ row) ++ m ∷ tail) → sign_first signs (tokens (x ∷ row) ++ m.token ∷ rest) ≡ false
+  other_off_in : (a : A) (x : Entry T) (row : Row T) (m : Entry T) (tail : Row T) (rest : List T) → S a ((x ∷ row) ++ m ∷ tail) → sign_first signs (tokens (x ∷ row) ++ m.token ∷ rest) ≡ false
   other_off_in a x [] m tail rest r = other_head a x (m ∷ tail) (m.token ∷ rest) (signs.sign x.token) refl r (λ n g e. let same : m ≡ n = cc in ap (λ y. signs.number y.token) same)
   other_off_in a x (y ∷ row) m tail rest r =
       other_head a x (y ∷ (row ++ m ∷ tail)) (y.token ∷ (tokens row ++ m.token ∷ rest)) (signs.sign x.token) refl r (λ n g e. let same : y ≡ n = cc in ap (λ z. signs.number z.token) same)
 
-  operator_first : (a : A) (m : Mark T) (tail : Row T) → P a (m ∷ tail) → (signs.sign m.token ≡ true) × (starts signs.number (tokens tail) ≡ false)
+  operator_first : (a : A) (m : Entry T) (tail : Row T) → P a (m ∷ tail) → (signs.sign m.token ≡ true) × (starts signs.number (tokens tail) ≡ false)
   operator_first a m tail r =
       let w = operators.shape a (m ∷ tail) r in
       let e = w.3 in
@@ -98,7 +98,7 @@ module _ {T A : Type 0} {signs : Signs T} (limit : ℕ) (c : T → Bool) (P S : 
       let w = others.sign t is in
       subst (λ u. Passed rest (s (u ∷ rest))) w.4 (gs.passes w.0 [] w.1 w.2 rest w.3 tt)
 
-  choice_passes : (a : A) (row : Row T) (m : Mark T) (tail : Row T) (rest : List T) → Either P S a (row ++ m ∷ tail) → Shallow limit row → Passed rest (choose_sign signs p s (tokens row ++ m.token ∷ rest))
+  choice_passes : (a : A) (row : Row T) (m : Entry T) (tail : Row T) (rest : List T) → Either P S a (row ++ m ∷ tail) → Shallow limit row → Passed rest (choose_sign signs p s (tokens row ++ m.token ∷ rest))
   choice_passes a [] m tail rest (inl r) sh = at (sign_first signs (m.token ∷ rest)) refl
     where
       at : (b : Bool) → sign_first signs (m.token ∷ rest) ≡ b → Passed rest (cond b (p (m.token ∷ rest)) (s (m.token ∷ rest)))
@@ -116,7 +116,7 @@ module _ {T A : Type 0} {signs : Signs T} (limit : ℕ) (c : T → Bool) (P S : 
       let e = other_off_in a x row m tail rest r in
       subst (Passed rest) (sym (on_flag (tokens (x ∷ row) ++ m.token ∷ rest) false e)) (gs.passes a (x ∷ row) m tail rest r sh)
 
-  choice_deep : (a : A) (row : Row T) (m : Mark T) (tail : Row T) (rest : List T) → Either P S a (row ++ m ∷ tail) → Shallow limit row → limit < m.depth → Fits signs m tail rest
+  choice_deep : (a : A) (row : Row T) (m : Entry T) (tail : Row T) (rest : List T) → Either P S a (row ++ m ∷ tail) → Shallow limit row → limit < m.depth → Fits signs m tail rest
       → choose_sign signs p s (tokens row ++ m.token ∷ rest) ≡ TooDeep (m.token ∷ rest)
   choice_deep a [] m tail rest (inl r) sh lt fits =
       let w = operator_first a m tail r in

@@ -1,16 +1,16 @@
 -- With which tokens the rows of a rule begin, and that they are not empty.
 use Rattle.std.proofs.Common.{◌≡◌, ℕ, Bool, true, false, List, [], ◌∷◌, ◌++◌, inl, inr, refl, sym, ap, ◌∙◌, subst, Option, Some, None, cond}
-use Rattle.reading.specs.Row.{Mark, Row, Signs}
+use Rattle.reading.specs.Row.{Entry, Row, Signs}
 use Rattle.reading.specs.Language.{Language, Terminal, Given, Mapped, Spanned, Then, Either, Headed, Optional, Many, Prefixed, kept, passing}
 use Rattle.reading.proofs.Rows.{append_nil}
 
 pub record StartsWith {T A : Type 0} (test : T → Bool) (R : Language T A) : Type 0 where
-  pub first : (a : A) (m : Mark T) (row : Row T) → R a (m ∷ row) → test m.token ≡ true
+  pub first : (a : A) (m : Entry T) (row : Row T) → R a (m ∷ row) → test m.token ≡ true
   pub nonempty : (a : A) → R a [] → ⊥
 
 -- the rows may be empty
 pub record StartsWithout {T A : Type 0} (test : T → Bool) (R : Language T A) : Type 0 where
-  pub first : (a : A) (m : Mark T) (row : Row T) → R a (m ∷ row) → test m.token ≡ false
+  pub first : (a : A) (m : Entry T) (row : Row T) → R a (m ∷ row) → test m.token ≡ false
 
 -- one token of two tests
 abbrev pub either : {T : Type 0} → (T → Bool) → (T → Bool) → T → Bool
@@ -30,7 +30,7 @@ pub either_none : {T : Type 0} (p q : T → Bool) (t : T) → p t ≡ false → 
 either_none p q t e h = ap (λ x. cond x true (q t)) e ∙ h
 
 pub first_mark : {T A : Type 0} {d : ℕ} (select : T → Option A) {x : A} (test : T → Bool) (f : Row T) → ((t : T) (y : A) → select t ≡ Some y → test t ≡ true)
-    → Terminal d select x f → (m : Mark T) (row g : Row T) → m ∷ row ≡ f ++ g → test m.token ≡ true
+    → Terminal d select x f → (m : Entry T) (row g : Row T) → m ∷ row ≡ f ++ g → test m.token ≡ true
 first_mark select {x} test f h (n, is, at, sel) m row g e =
     let e2 : m ∷ row ≡ n ∷ g = e ∙ ap (λ y. y ++ g) is in
     let same : m ≡ n = cc in
@@ -51,7 +51,7 @@ starts_then {T} {A} {B} {P} {Q} {test} s = record {
   nonempty = λ b (x, f, g, e, p, q). empty x f g e p;
 }
   where
-    at : (x : A) (f : Row T) (m : Mark T) (row g : Row T) → m ∷ row ≡ f ++ g → P x f → test m.token ≡ true
+    at : (x : A) (f : Row T) (m : Entry T) (row g : Row T) → m ∷ row ≡ f ++ g → P x f → test m.token ≡ true
     at x [] m row g e p = absurd (s.nonempty x p)
     at x (n ∷ f) m row g e p = let same : m ≡ n = cc in subst (λ y. test y.token ≡ true) (sym same) (s.first x n f p)
 
@@ -109,7 +109,7 @@ pub without_either : {T A : Type 0} {P Q : Language T A} {test : T → Bool} →
 without_either p q = record { first = λ v m row r. elim r [ inl w ↦ p.first v m row w | inr w ↦ q.first v m row w ] }
 
 -- the first token of a list is that of its first element
-pub many_first : {T A : Type 0} {test : T → Bool} {R : Language T A} → StartsWith test R → (vs : List A) (m : Mark T) (row : Row T) → Many R vs (m ∷ row) → test m.token ≡ true
+pub many_first : {T A : Type 0} {test : T → Bool} {R : Language T A} → StartsWith test R → (vs : List A) (m : Entry T) (row : Row T) → Many R vs (m ∷ row) → test m.token ≡ true
 many_first s [] m row e = cc
 many_first {T} {A} {test} {R} s (v ∷ vs) m row (f, g, e, r, others) = at f e r
   where
@@ -130,7 +130,7 @@ passing_some test t e = ap (λ b. kept b t) e
 pub without_many : {T A : Type 0} {test other : T → Bool} {R : Language T A} → StartsWith test R → ((t : T) → test t ≡ true → other t ≡ false) → StartsWithout other (Many R)
 without_many s apart = record { first = λ vs m row r. apart m.token (many_first s vs m row r) }
 
-optional_first : {T A : Type 0} {test : T → Bool} {R : Language T A} → StartsWithout test R → (o : Option A) (m : Mark T) (row : Row T) → Optional R o (m ∷ row) → test m.token ≡ false
+optional_first : {T A : Type 0} {test : T → Bool} {R : Language T A} → StartsWithout test R → (o : Option A) (m : Entry T) (row : Row T) → Optional R o (m ∷ row) → test m.token ≡ false
 optional_first s None m row e = cc
 optional_first s (Some a) m row r = s.first a m row r
 

@@ -1,6 +1,6 @@
 -- A single token, and a value without tokens.
 use Rattle.std.proofs.Common.{◌≡◌, ℕ, ◌≤◌, List, [], ◌∷◌, ◌++◌, refl, sym, ap, ◌∙◌, subst, arith, Option, Some, None}
-use Rattle.reading.specs.Row.{Mark, Row, Signs, tokens}
+use Rattle.reading.specs.Row.{Entry, Row, Signs, tokens}
 use Rattle.reading.specs.Language.{Terminal, Given}
 use Rattle.reading.specs.Reader.{Done, Unexpected, TooDeep, accept, picked, give}
 use Rattle.reading.specs.Good.{Good, Passed, ReadFrom}
@@ -24,7 +24,7 @@ module _ {T A : Type 0} (signs : Signs T) (limit d : ℕ) (within : d ≤ limit)
   accept_done t ts (Some b) e a rest h =
       let same : ts ≡ rest = cc in
       let is : select t ≡ Some a = cc in
-      let m : Mark T = record { token = t; depth = d } in
+      let m : Entry T = record { token = t; depth = d } in
       (m ∷ [], (m, refl, refl, is), (within, tt), ap (λ x. t ∷ x) same)
   accept_done t ts None e a rest h = cc
 
@@ -36,7 +36,7 @@ module _ {T A : Type 0} (signs : Signs T) (limit d : ℕ) (within : d ≤ limit)
   accept_not_deep t ts (Some b) rest h = cc
   accept_not_deep t ts None rest h = cc
 
-  accept_passed : (b : A) (row : Row T) (m : Mark T) (tail : Row T) (rest : List T) → Terminal d select b (row ++ m ∷ tail) → Passed rest (accept select (tokens row ++ m.token ∷ rest))
+  accept_passed : (b : A) (row : Row T) (m : Entry T) (tail : Row T) (rest : List T) → Terminal d select b (row ++ m ∷ tail) → Passed rest (accept select (tokens row ++ m.token ∷ rest))
   accept_passed b [] m tail rest (n, e, is, sel) =
       let same : m ≡ n = only_one [] m n tail e in
       subst (Passed rest) (sym (ap (λ o. picked o m.token rest) (ap (λ x. select x.token) same ∙ sel))) ([], refl)
@@ -45,11 +45,11 @@ module _ {T A : Type 0} (signs : Signs T) (limit d : ℕ) (within : d ≤ limit)
 
   accept_all : (a : A) (t : T) → select t ≡ Some a → Good signs limit none (Terminal d select) (accept select)
   accept_all a t is = record {
-    example = let m : Mark T = record { token = t; depth = d } in (a, m ∷ [], (m, refl, refl, is));
+    example = let m : Entry T = record { token = t; depth = d } in (a, m ∷ [], (m, refl, refl, is));
     done = elim [ [] ↦ λ b rest h. absurd cc | u ∷ ts ↦ λ b rest h. accept_done u ts (select u) refl b rest h ];
     unexpected = elim [
-      | [] ↦ λ rest h. let e : [] ≡ rest = cc in let m : Mark T = record { token = t; depth = d } in ([], m ∷ [], a, (m, refl, refl, is), tt, e)
-      | u ∷ ts ↦ λ rest h. let m : Mark T = record { token = t; depth = d } in ([], m ∷ [], a, (m, refl, refl, is), tt, accept_unexpected u ts (select u) refl rest h)
+      | [] ↦ λ rest h. let e : [] ≡ rest = cc in let m : Entry T = record { token = t; depth = d } in ([], m ∷ [], a, (m, refl, refl, is), tt, e)
+      | u ∷ ts ↦ λ rest h. let m : Entry T = record { token = t; depth = d } in ([], m ∷ [], a, (m, refl, refl, is), tt, accept_unexpected u ts (select u) refl rest h)
     ];
     too_deep = elim [ [] ↦ λ rest h. absurd cc | u ∷ ts ↦ λ rest h. absurd (accept_not_deep u ts (select u) rest h) ];
     complete = λ b row rest r s stop.

@@ -64,6 +64,11 @@ stopped : {T A : Type 0} (test : T → Bool) (p : Reader T A) (rest : List T) (n
 stopped test p rest zero s = refl
 stopped test p rest (suc n) s = ap (λ b. cond b (and_then (p rest) (λ a r. mapped (λ more. a ∷ more) (many_up_to n test p r))) (Done [] rest)) s
 
+-- where no element begins there is none
+pub many_none : {T A : Type 0} (test : T → Bool) (p : Reader T A) (ts : List T) → starts test ts ≡ false → many test p ts ≡ Done [] ts
+unfolding many
+many_none test p ts s = stopped test p ts (length ts) s
+
 -- no further element begins
 pub turns_stop : {T A : Type 0} {test : T → Bool} {p : Reader T A} {wanted : Outcome T (List A)} {rest : List T} {n : ℕ} {first : List A}
     → Turns test p wanted n first rest → starts test rest ≡ false → wanted ≡ Done first rest

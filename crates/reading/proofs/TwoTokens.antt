@@ -1,21 +1,21 @@
 -- A choice by the first two tokens.
 use Rattle.std.proofs.Common.{◌≡◌, ℕ, ◌≤◌, ◌<◌, Bool, true, false, List, [], ◌∷◌, ◌++◌, ◌⊎◌, inl, inr, refl, sym, ap, ◌∙◌, subst, arith, cond}
-use Rattle.reading.specs.Row.{Mark, Row, Signs, tokens, Shallow, starts, Fits}
+use Rattle.reading.specs.Row.{Entry, Row, Signs, tokens, Shallow, starts, Fits}
 use Rattle.reading.specs.Language.{Language, Either}
 use Rattle.reading.specs.Reader.{Done, Unexpected, TooDeep, Reader, pair_first, choose_pair}
 use Rattle.reading.specs.Good.{Good, Passed, ReadFrom, StopsAt, DeepAt}
 
--- rows of two marks or more, of which the first two pass the tests
+-- rows of two entries or more, of which the first two pass the tests
 pub record AtPair {T A : Type 0} (limit : ℕ) (one two : T → Bool) (P : Language T A) : Type 0 where
-  pub shape : (a : A) (row : Row T) → P a row → (m : Mark T) × (n : Mark T) × (g : Row T) × (row ≡ m ∷ n ∷ g) × (one m.token ≡ true) × (two n.token ≡ true) × (m.depth ≤ limit)
-  pub same : (t : T) → one t ≡ true → (a : A) × (m : Mark T) × (tail : Row T) × P a (m ∷ tail) × (m.token ≡ t)
+  pub shape : (a : A) (row : Row T) → P a row → (m : Entry T) × (n : Entry T) × (g : Row T) × (row ≡ m ∷ n ∷ g) × (one m.token ≡ true) × (two n.token ≡ true) × (m.depth ≤ limit)
+  pub same : (t : T) → one t ≡ true → (a : A) × (m : Entry T) × (tail : Row T) × P a (m ∷ tail) × (m.token ≡ t)
 
 -- rows that begin otherwise
 pub record OffPair {T A : Type 0} (limit : ℕ) (one two : T → Bool) (S : Language T A) : Type 0 where
-  pub shape : (a : A) (m : Mark T) (row : Row T) → S a (m ∷ row) → one m.token ≡ true → (n : Mark T) (g : Row T) → row ≡ n ∷ g → two n.token ≡ false
-  pub flat : (a : A) (m : Mark T) (row : Row T) → S a (m ∷ row) → one m.token ≡ true → m.depth ≤ limit
+  pub shape : (a : A) (m : Entry T) (row : Row T) → S a (m ∷ row) → one m.token ≡ true → (n : Entry T) (g : Row T) → row ≡ n ∷ g → two n.token ≡ false
+  pub flat : (a : A) (m : Entry T) (row : Row T) → S a (m ∷ row) → one m.token ≡ true → m.depth ≤ limit
   pub nonempty : (a : A) → S a [] → ⊥
-  pub same : (t : T) → one t ≡ true → (a : A) × (m : Mark T) × (tail : Row T) × S a (m ∷ tail) × (m.token ≡ t)
+  pub same : (t : T) → one t ≡ true → (a : A) × (m : Entry T) × (tail : Row T) × S a (m ∷ tail) × (m.token ≡ t)
 
 module _ {T A : Type 0} {signs : Signs T} (limit : ℕ) (c one two : T → Bool) (P S : Language T A) (p s : Reader T A) (gp : Good signs limit c P p) (gs : Good signs limit c S s)
     (pair : AtPair limit one two P) (off : OffPair limit one two S) (within : (t : T) → two t ≡ true → c t ≡ true) where
@@ -38,7 +38,7 @@ module _ {T A : Type 0} {signs : Signs T} (limit : ℕ) (c one two : T → Bool)
   pair_too_deep ts rest false h = let d = gs.too_deep ts rest h in (d.0, d.1, d.2, d.3, d.4, inr d.5, d.6, d.7, d.8, d.9, d.10)
 
   -- the list that a row and what follows it make, told by its first two tokens
-  first_on : (a : A) (x : Mark T) (row : Row T) (ts : List T) → P a (x ∷ row) → ((n : Mark T) (g : Row T) → row ≡ n ∷ g → starts two ts ≡ two n.token) → pair_first one two (x.token ∷ ts) ≡ true
+  first_on : (a : A) (x : Entry T) (row : Row T) (ts : List T) → P a (x ∷ row) → ((n : Entry T) (g : Row T) → row ≡ n ∷ g → starts two ts ≡ two n.token) → pair_first one two (x.token ∷ ts) ≡ true
   first_on a x row ts r follows =
       let w = pair.shape a (x ∷ row) r in
       let e = w.3 in
@@ -46,7 +46,7 @@ module _ {T A : Type 0} {signs : Signs T} (limit : ℕ) (c one two : T → Bool)
       let back : row ≡ w.1 ∷ w.2 = cc in
       flag x.token ts true true (ap (λ y. one y.token) first ∙ w.4) (follows w.1 w.2 back ∙ w.5)
 
-  other_off : (a : A) (x : Mark T) (row : Row T) (ts : List T) (b : Bool) → one x.token ≡ b → S a (x ∷ row) → (starts two ts ≡ false) ⊎ ((n : Mark T) × (g : Row T) × (row ≡ n ∷ g) × (starts two ts ≡ two n.token))
+  other_off : (a : A) (x : Entry T) (row : Row T) (ts : List T) (b : Bool) → one x.token ≡ b → S a (x ∷ row) → (starts two ts ≡ false) ⊎ ((n : Entry T) × (g : Row T) × (row ≡ n ∷ g) × (starts two ts ≡ two n.token))
       → pair_first one two (x.token ∷ ts) ≡ false
   other_off a x row ts false e r follows = ap (λ y. cond y (starts two ts) false) e
   other_off a x row ts true e r (inl none) = flag x.token ts true false e none
@@ -69,11 +69,11 @@ module _ {T A : Type 0} {signs : Signs T} (limit : ℕ) (c one two : T → Bool)
   first_whole a [] rest r = absurd (let w = pair.shape a [] r in let e = w.3 in cc)
   first_whole a (x ∷ row) rest r = first_on a x row (tokens row ++ rest) r (λ n g e. ap (λ y. starts two (tokens y ++ rest)) e)
 
-  first_in : (a : A) (x : Mark T) (row : Row T) (m : Mark T) (tail : Row T) (rest : List T) → P a ((x ∷ row) ++ m ∷ tail) → pair_first one two (tokens (x ∷ row) ++ m.token ∷ rest) ≡ true
+  first_in : (a : A) (x : Entry T) (row : Row T) (m : Entry T) (tail : Row T) (rest : List T) → P a ((x ∷ row) ++ m ∷ tail) → pair_first one two (tokens (x ∷ row) ++ m.token ∷ rest) ≡ true
   first_in a x [] m tail rest r = first_on a x (m ∷ tail) (m.token ∷ rest) r (λ n g e. let same : m ≡ n = cc in ap (λ y. two y.token) same)
   first_in a x (y ∷ row) m tail rest r = first_on a x (y ∷ (row ++ m ∷ tail)) (y.token ∷ (tokens row ++ m.token ∷ rest)) r (λ n g e. let same : y ≡ n = cc in ap (λ z. two z.token) same)
 
-  other_in : (a : A) (x : Mark T) (row : Row T) (m : Mark T) (tail : Row T) (rest : List T) → S a ((x ∷ row) ++ m ∷ tail) → pair_first one two (tokens (x ∷ row) ++ m.token ∷ rest) ≡ false
+  other_in : (a : A) (x : Entry T) (row : Row T) (m : Entry T) (tail : Row T) (rest : List T) → S a ((x ∷ row) ++ m ∷ tail) → pair_first one two (tokens (x ∷ row) ++ m.token ∷ rest) ≡ false
   other_in a x [] m tail rest r = other_off a x (m ∷ tail) (m.token ∷ rest) (one x.token) refl r (inr (m, tail, refl, refl))
   other_in a x (y ∷ row) m tail rest r = other_off a x (y ∷ (row ++ m ∷ tail)) (y.token ∷ (tokens row ++ m.token ∷ rest)) (one x.token) refl r (inr (y, row ++ m ∷ tail, refl, refl))
 
@@ -88,7 +88,7 @@ module _ {T A : Type 0} {signs : Signs T} (limit : ℕ) (c one two : T → Bool)
   is_one t ts true e h = e
   is_one t ts false e h = let bad : false ≡ true = sym (ap (λ y. cond y (starts two ts) false) e) ∙ h in cc
 
-  pair_passes : (a : A) (row : Row T) (m : Mark T) (tail : Row T) (rest : List T) → Either P S a (row ++ m ∷ tail) → Shallow limit row → Passed rest (choose_pair one two p s (tokens row ++ m.token ∷ rest))
+  pair_passes : (a : A) (row : Row T) (m : Entry T) (tail : Row T) (rest : List T) → Either P S a (row ++ m ∷ tail) → Shallow limit row → Passed rest (choose_pair one two p s (tokens row ++ m.token ∷ rest))
   pair_passes a [] m tail rest (inl r) sh = at (pair_first one two (m.token ∷ rest))
     where
       head : one m.token ≡ true
@@ -108,7 +108,7 @@ module _ {T A : Type 0} {signs : Signs T} (limit : ℕ) (c one two : T → Bool)
       subst (Passed rest) (sym (on_flag (tokens (x ∷ row) ++ m.token ∷ rest) false (other_in a x row m tail rest r))) (gs.passes a (x ∷ row) m tail rest r sh)
 
   -- the first token nests nowhere
-  pair_deep : (a : A) (row : Row T) (m : Mark T) (tail : Row T) (rest : List T)
+  pair_deep : (a : A) (row : Row T) (m : Entry T) (tail : Row T) (rest : List T)
       → Either P S a (row ++ m ∷ tail) → Shallow limit row → limit < m.depth → Fits signs m tail rest → choose_pair one two p s (tokens row ++ m.token ∷ rest) ≡ TooDeep (m.token ∷ rest)
   pair_deep a [] m tail rest (inl r) sh lt fits =
       absurd (let w = pair.shape a (m ∷ tail) r in let e = w.3 in let first : m ≡ w.0 = cc in let depths : m.depth ≡ w.0.depth = ap (λ y. y.depth) first in omega (arith, w.6))

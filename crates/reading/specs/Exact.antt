@@ -1,7 +1,7 @@
 -- What is true of a text of a language: that it is spelled, that it begins one, where it has its first unexpected token,
 -- and where it nests too deep.
 use Rattle.std.specs.Prelude.{◌≡◌, ℕ, ◌<◌, List, [], ◌∷◌, ◌++◌, ◌-◌, length}
-use Rattle.reading.specs.Row.{Mark, Row, Signs, tokens, Shallow, Fits}
+use Rattle.reading.specs.Row.{Entry, Row, Signs, tokens, Shallow, Fits}
 use Rattle.reading.specs.Language.{Language}
 use Rattle.reading.specs.Reader.{Outcome, Done, Unexpected, TooDeep}
 
@@ -29,7 +29,7 @@ module _ {T A : Type 0} (R : Language T A) where
 
   -- the tokens up to the one at this place begin a text, in which that one is the first to nest deeper
   abbrev pub TooDeepAt : Signs T → ℕ → List T → ℕ → Type 0
-  TooDeepAt signs limit ts i = (row : Row T) × (m : Mark T) × (tail : Row T) × (rest : List T) × (x : A)
+  TooDeepAt signs limit ts i = (row : Row T) × (m : Entry T) × (tail : Row T) × (rest : List T) × (x : A)
       × (ts ≡ tokens row ++ m.token ∷ rest) × (i ≡ length (tokens row)) × R x (row ++ m ∷ tail) × Shallow limit row × (limit < m.depth) × Fits signs m tail rest
 
 -- What a parser answers: the value, or the place of the fault.

@@ -1,7 +1,7 @@
 -- The one fact that goes from combinator to combinator: a reader reads exactly what a rule spells, and stops exactly at
 -- the first token that the rule cannot have there, or that nests deeper than the limit.
 use Rattle.std.specs.Prelude.{◌≡◌, ℕ, ◌<◌, Bool, false, List, [], ◌∷◌, ◌++◌}
-use Rattle.reading.specs.Row.{Mark, Row, Signs, tokens, Shallow, starts, Fits}
+use Rattle.reading.specs.Row.{Entry, Row, Signs, tokens, Shallow, starts, Fits}
 use Rattle.reading.specs.Language.{Language}
 use Rattle.reading.specs.Reader.{Outcome, Done, Unexpected, TooDeep, Reader}
 
@@ -21,7 +21,7 @@ StopsAt {T} {A} limit R ts rest = (row : Row T) × (tail : Row T) × (a : A) × 
 
 -- of these tokens those before the rest begin a row of the rule in which the next token nests deeper than the limit
 abbrev pub DeepAt : {T A : Type 0} → Signs T → ℕ → Language T A → List T → List T → Type 0
-DeepAt {T} {A} signs limit R ts rest = (row : Row T) × (m : Mark T) × (tail : Row T) × (after : List T) × (a : A) × R a (row ++ m ∷ tail) × Shallow limit row
+DeepAt {T} {A} signs limit R ts rest = (row : Row T) × (m : Entry T) × (tail : Row T) × (after : List T) × (a : A) × R a (row ++ m ∷ tail) × Shallow limit row
     × (limit < m.depth) × (rest ≡ m.token ∷ after) × (ts ≡ tokens row ++ rest) × Fits signs m tail after
 
 -- `goes_on` picks the tokens with which a row of the rule might go on behind its end, where the reader could stop.
@@ -35,10 +35,10 @@ pub record Good {T A : Type 0} (signs : Signs T) (limit : ℕ) (goes_on : T → 
   -- what is spelled is read, where the next token does not go on
   pub complete : (a : A) (row : Row T) (rest : List T) → R a row → Shallow limit row → starts goes_on rest ≡ false → p (tokens row ++ rest) ≡ Done a rest
   -- tokens that begin a row are passed, whatever follows them
-  pub passes : (a : A) (row : Row T) (m : Mark T) (tail : Row T) (rest : List T) → R a (row ++ m ∷ tail) → Shallow limit row
+  pub passes : (a : A) (row : Row T) (m : Entry T) (tail : Row T) (rest : List T) → R a (row ++ m ∷ tail) → Shallow limit row
       → Passed rest (p (tokens row ++ m.token ∷ rest))
   -- the first token that nests too deep is told as such
-  pub deep : (a : A) (row : Row T) (m : Mark T) (tail : Row T) (rest : List T) → R a (row ++ m ∷ tail) → Shallow limit row
+  pub deep : (a : A) (row : Row T) (m : Entry T) (tail : Row T) (rest : List T) → R a (row ++ m ∷ tail) → Shallow limit row
       → limit < m.depth → Fits signs m tail rest → p (tokens row ++ m.token ∷ rest) ≡ TooDeep (m.token ∷ rest)
   -- no row ends in a prefix operator
-  pub ends : (a : A) (row : Row T) (m : Mark T) → R a (row ++ m ∷ []) → limit < m.depth → signs.sign m.token ≡ false
+  pub ends : (a : A) (row : Row T) (m : Entry T) → R a (row ++ m ∷ []) → limit < m.depth → signs.sign m.token ≡ false

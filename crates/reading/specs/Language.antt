@@ -1,14 +1,14 @@
 -- Languages: which rows spell a value. Productions of a grammar are put together from these, and a relation of its own
 -- names, one constructor for each production, is shown to be the same.
 use Rattle.std.specs.Prelude.{◌≡◌, ℕ, suc, Bool, true, false, List, [], ◌∷◌, ◌++◌, ◌⊎◌, Option, Some, None}
-use Rattle.reading.specs.Row.{Mark, Row, Signs, tokens}
+use Rattle.reading.specs.Row.{Entry, Row, Signs, tokens}
 
 abbrev pub Language : Type 0 → Type 0 → Type 1
 Language T A = A → Row T → Type 0
 
 -- one token at this depth, of which `select` gives the value
 abbrev pub Terminal : {T A : Type 0} → ℕ → (T → Option A) → Language T A
-Terminal {T} d select a row = (m : Mark T) × (row ≡ m ∷ []) × (m.depth ≡ d) × (select m.token ≡ Some a)
+Terminal {T} d select a row = (m : Entry T) × (row ≡ m ∷ []) × (m.depth ≡ d) × (select m.token ≡ Some a)
 
 -- a value without tokens
 abbrev pub Given : {T A : Type 0} → A → Language T A
@@ -71,7 +71,7 @@ Enclosed d opens closes f R = Nested d opens (λ _. Then R (λ x. Mapped (f x) (
 
 -- a sign as a prefix operator: one level deeper with its operand, which begins with no number
 abbrev pub Prefixed : {T A B : Type 0} → Signs T → ℕ → (A → List T → B) → Language T A → Language T B
-Prefixed {T} {A} signs d f R b row = (x : A) × (m : Mark T) × (n : Mark T) × (g : Row T) × (row ≡ m ∷ n ∷ g) × (m.depth ≡ suc d)
+Prefixed {T} {A} signs d f R b row = (x : A) × (m : Entry T) × (n : Entry T) × (g : Row T) × (row ≡ m ∷ n ∷ g) × (m.depth ≡ suc d)
     × (signs.sign m.token ≡ true) × (signs.number n.token ≡ false) × R x (n ∷ g) × (b ≡ f x (tokens row))
 
 -- the token itself, where it passes the test: for a terminal that has no other value

@@ -2,12 +2,12 @@
 -- that how deep each token nests is part of the grammar.
 use Rattle.std.specs.Prelude.{◌≡◌, ℕ, ◌≤◌, Bool, true, false, List, [], ◌∷◌}
 
-pub record Mark (T : Type 0) : Type 0 where
+pub record Entry (T : Type 0) : Type 0 where
   pub token : T
   pub depth : ℕ
 
 abbrev pub Row : Type 0 → Type 0
-Row T = List (Mark T)
+Row T = List (Entry T)
 
 abbrev pub tokens : {T : Type 0} → Row T → List T
 tokens [] = []
@@ -34,5 +34,5 @@ abbrev pub no_signs : {T : Type 0} → Signs T
 no_signs = record { sign = λ _. false; number = λ _. false }
 
 -- behind a sign these tokens and the rest of its row agree on whether a number follows
-abbrev pub Fits : {T : Type 0} → Signs T → Mark T → Row T → List T → Type 0
+abbrev pub Fits : {T : Type 0} → Signs T → Entry T → Row T → List T → Type 0
 Fits signs m tail after = signs.sign m.token ≡ true → starts signs.number (tokens tail) ≡ starts signs.number after

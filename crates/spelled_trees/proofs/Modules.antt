@@ -2,7 +2,7 @@
 use Rattle.std.proofs.Common.{◌≡◌, ℕ, ◌+◌, ◌*◌, ◌≤◌, List, [], ◌∷◌, ◌++◌, length, map, sym, ap, subst, arith}
 use Rattle.std.specs.Prelude.{All}
 use Rattle.ivory_lexer.specs.declared.Token.{Token}
-use Rattle.ivory_lexer.specs.Tokens.{IsKind, InOrder}
+use Rattle.ivory_lexer.specs.Tokens.{IsKind, IsName, InOrder}
 use Rattle.ivory_tree.specs.Nodes.{item_node, module_nodes, nodes_count}
 use Rattle.ivory_tree.specs.Formed.{Formed, FormedItem}
 use Rattle.ivory_tree.specs.Names.{item_names, module_names}
@@ -16,7 +16,7 @@ use Rattle.module_grammar.specs.Items as items
 use Rattle.module_grammar.specs.Modules as grammar
 use Rattle.module_grammar.specs.Modules.{Symbol, module_, Tree, Spells, Text}
 use Rattle.module_grammar.specs.Parse.{levels}
-use Rattle.spelled_trees.specs.Trees.{IsName, FewNodes, OfTokens}
+use Rattle.spelled_trees.specs.Trees.{FewNodes, OfTokens}
 use Rattle.spelled_trees.proofs.Order.{Ordered, Where, behind}
 use Rattle.spelled_trees.proofs.Places.{AllLie, lie_behind}
 use Rattle.spelled_trees.proofs.Sizes.{both_long, AllFew}

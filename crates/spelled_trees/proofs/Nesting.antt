@@ -2,7 +2,7 @@
 -- `||` and one of `&&`.
 use Rattle.std.proofs.Common.{◌≡◌, ℕ, suc, ◌+◌, ◌-◌, ◌*◌, ◌≤◌, max, [], ◌∷◌, ◌++◌, ap, subst, arith}
 use Rattle.ivory_lexer.specs.declared.Token.{Token}
-use Rattle.reading.specs.Row.{Mark, Row, Shallow}
+use Rattle.reading.specs.Row.{Entry, Row, Shallow}
 use Rattle.reading.proofs.Rows.{shallow_front, shallow_back}
 
 -- by what nests in the levels that are left, and some more
@@ -28,7 +28,7 @@ pub deepest_of : {d n m more : ℕ} {row : Row Token} → AtMost d row n more �
 deepest_of a b = record { bound = λ limit s up. omega (arith, a.bound limit s up, b.bound limit s up) }
 
 -- behind a token that opens a level, with a block or an arm
-pub opened : {d n : ℕ} {m : Mark Token} {f g : Row Token} → f ≡ m ∷ [] → m.depth ≡ suc d → AtMost (suc d) g n 2 → AtMost d (f ++ g) (1 + n) 0
+pub opened : {d n : ℕ} {m : Entry Token} {f g : Row Token} → f ≡ m ∷ [] → m.depth ≡ suc d → AtMost (suc d) g n 2 → AtMost d (f ++ g) (1 + n) 0
 opened {d} {m} {f} {g} e at a = record {
   bound = λ limit s up.
       let one : Shallow limit (m ∷ []) = subst (Shallow limit) e (shallow_front limit f g s) in
@@ -37,17 +37,17 @@ opened {d} {m} {f} {g} e at a = record {
 }
 
 -- the same without
-pub inner : {d n : ℕ} {m : Mark Token} {f g : Row Token} → f ≡ m ∷ [] → m.depth ≡ suc d → AtMost (suc d) g n 2 → AtMost d (f ++ g) n 0
+pub inner : {d n : ℕ} {m : Entry Token} {f g : Row Token} → f ≡ m ∷ [] → m.depth ≡ suc d → AtMost (suc d) g n 2 → AtMost d (f ++ g) n 0
 inner e at a = lower (omega arith) (omega arith) (opened e at a)
 
 -- a row that begins at this depth
 pub record Begins (d : ℕ) (row : Row Token) : Type 0 where
-  pub first : Mark Token
+  pub first : Entry Token
   pub others : Row Token
   pub is : row ≡ first ∷ others
   pub deep : first.depth ≡ d
 
-pub begins : {d : ℕ} {m : Mark Token} {f : Row Token} (g : Row Token) → f ≡ m ∷ [] → m.depth ≡ d → Begins d (f ++ g)
+pub begins : {d : ℕ} {m : Entry Token} {f : Row Token} (g : Row Token) → f ≡ m ∷ [] → m.depth ≡ d → Begins d (f ++ g)
 begins {m} g e at = record { first = m; others = g; is = ap (λ y. y ++ g) e; deep = at }
 
 -- in a block or an arm of its own, which its first token opens

@@ -3,7 +3,7 @@ use Rattle.std.proofs.Common.{◌≡◌, ℕ, ◌-◌, ◌<◌, ◌≤◌, List,
 use Rattle.std.specs.Prelude.{slice_get}
 use Rattle.ivory_lexer.specs.declared.Token.{Token}
 use Rattle.ivory_lexer.specs.Tokens.{InOrder}
-use Rattle.reading.specs.Row.{Mark, Row, tokens}
+use Rattle.reading.specs.Row.{Entry, Row, tokens}
 use Rattle.expression_grammar.specs.Tokens.{span_of, end_of}
 
 -- the tokens of a row are in order between these places
@@ -62,7 +62,7 @@ pub filled_back : (f g : Row Token) → Filled g → Filled (f ++ g)
 filled_back [] g is = is
 filled_back (m ∷ f) g is = tt
 
-pub filled_token : {m : Mark Token} {f : Row Token} → f ≡ m ∷ [] → Filled f
+pub filled_token : {m : Entry Token} {f : Row Token} → f ≡ m ∷ [] → Filled f
 filled_token e = subst Filled (sym e) tt
 
 pub filled_up : {low high : ℕ} {f : Row Token} → Filled f → Ordered low f high → low < high
@@ -75,7 +75,7 @@ pub record TokenPlace (low : ℕ) (t : Token) (high : ℕ) : Type 0 where
   pub some : t.span.start < t.span.end
   pub ends : t.span.end ≤ high
 
-pub token_place : {low high : ℕ} {m : Mark Token} {f : Row Token} → f ≡ m ∷ [] → Ordered low f high → TokenPlace low m.token high
+pub token_place : {low high : ℕ} {m : Entry Token} {f : Row Token} → f ≡ m ∷ [] → Ordered low f high → TokenPlace low m.token high
 token_place {low} {high} {m} e o =
     let p : Ordered low (m ∷ []) high = subst (λ r. Ordered low r high) e o in
     record { begins = p.in_order.0; some = p.in_order.1; ends = p.in_order.3 }

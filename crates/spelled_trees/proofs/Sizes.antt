@@ -2,12 +2,12 @@
 use Rattle.std.proofs.Common.{◌≡◌, ◌+◌, [], ◌∷◌, ◌++◌, length, ap, length-append, ◌*◌, ◌≤◌}
 use Rattle.ivory_lexer.specs.declared.Token.{Token}
 use Rattle.ivory_tree.specs.Nodes.{Node, Nodes, node_count, nodes_count}
-use Rattle.reading.specs.Row.{Mark, Row}
+use Rattle.reading.specs.Row.{Entry, Row}
 
 pub both_long : (f g : Row Token) → length (f ++ g) ≡ length f + length g
 both_long f g = length-append f g
 
-pub one_long : {m : Mark Token} {f : Row Token} → f ≡ m ∷ [] → length f ≡ 1
+pub one_long : {m : Entry Token} {f : Row Token} → f ≡ m ∷ [] → length f ≡ 1
 one_long e = ap length e
 
 pub record Few (row : Row Token) (n : Node) : Type 0 where

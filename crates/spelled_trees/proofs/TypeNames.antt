@@ -19,7 +19,7 @@ use Rattle.ivory_tree.specs.declared.RegionText.TheVariants as region
 use Rattle.ivory_lexer.specs.declared.TokenKind.{TokenKind}
 use Rattle.ivory_lexer.specs.declared.TokenKind.TheVariants as kind
 use Rattle.ivory_lexer.specs.declared.Key.TheVariants as key
-use Rattle.reading.specs.Row.{Mark}
+use Rattle.reading.specs.Row.{Entry}
 use Rattle.module_grammar.specs.Tokens.{region_of_kind, region_of}
 use Rattle.spelled_trees.proofs.Words.{Told, no_names, told_ahead, told_behind, told_both, told_word}
 
@@ -29,7 +29,7 @@ region_word (kind.Key key.KwGlobal) w e = cc
 region_word _ w e = cc
 
 module _ (P : TokenKind → Type 0) where
-  told_region : (m : Mark Token) (f : Row Token) (r : RegionText) → f ≡ m ∷ [] → region_of m.token ≡ Some r → Told P f (region_names r)
+  told_region : (m : Entry Token) (f : Row Token) (r : RegionText) → f ≡ m ∷ [] → region_of m.token ≡ Some r → Told P f (region_names r)
   told_region m f region.Global e is = no_names
   told_region m f (region.Named w) e is = told_word e (region_word m.token.kind w is)
 

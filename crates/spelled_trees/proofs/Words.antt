@@ -8,7 +8,7 @@ use Rattle.ivory_lexer.specs.declared.Token.{Token}
 use Rattle.ivory_lexer.specs.declared.TokenKind.{TokenKind}
 use Rattle.ivory_lexer.specs.declared.TokenKind.TheVariants as kind
 use Rattle.ivory_tree.specs.Syntax.{Word}
-use Rattle.reading.specs.Row.{Mark, Row}
+use Rattle.reading.specs.Row.{Entry, Row}
 use Rattle.expression_grammar.specs.Tokens.{word_of_kind, word_of, named, name_of}
 
 -- of each token's kind
@@ -54,12 +54,12 @@ module _ {P : TokenKind → Type 0} where
   pub told_then : {row : Row Token} {w : Word} {ws : List Word} → Told P row (w ∷ []) → Told P row ws → Told P row (w ∷ ws)
   told_then {w} {ws} t u = told_both t u
 
-  pub told_word : {m : Mark Token} {f : Row Token} {w : Word} → f ≡ m ∷ [] → word_of m.token ≡ Some w → Told P f (w ∷ [])
+  pub told_word : {m : Entry Token} {f : Row Token} {w : Word} → f ≡ m ∷ [] → word_of m.token ≡ Some w → Told P f (w ∷ [])
   told_word {m} {f} {w} e is = record {
     all = λ each.
         let there : Each P (m ∷ []) = subst (Each P) e each in
         All-cons (λ w. P (kind.Name w)) w [] (subst P (worded m.token.kind w is) there.0) (All-nil (λ w. P (kind.Name w)));
   }
 
-  pub told_name : {m : Mark Token} {f : Row Token} {name : Name} → f ≡ m ∷ [] → name_of m.token ≡ Some name → Told P f (name.text ∷ [])
+  pub told_name : {m : Entry Token} {f : Row Token} {name : Name} → f ≡ m ∷ [] → name_of m.token ≡ Some name → Told P f (name.text ∷ [])
   told_name {m} {name} e is = told_word e (named_word (word_of m.token) m.token.span name is)

@@ -1,6 +1,6 @@
 -- What holds of every tree that tokens spell. Tokens of a text are in order.
 use Rattle.std.specs.Prelude.{ℕ, List}
-use Rattle.ivory_lexer.specs.Tokens.{InOrder}
+use Rattle.ivory_lexer.specs.Tokens.{IsName, InOrder}
 use Rattle.ivory_lexer.specs.declared.Token.{Token}
 use Rattle.ivory_tree.specs.Formed.{Formed}
 use Rattle.ivory_tree.specs.TextLike.{TextLike}
@@ -9,7 +9,7 @@ use Rattle.ivory_tree.specs.declared.Module.{Module}
 use Rattle.reading.specs.Exact.{Spelled, SpelledWithin}
 use Rattle.module_grammar.specs.Modules.{Text}
 use Rattle.module_grammar.specs.Parse.{levels}
-use Rattle.spelled_trees.specs.Trees.{IsName, FewNodes, OfTokens}
+use Rattle.spelled_trees.specs.Trees.{FewNodes, OfTokens}
 
 -- at whatever nesting, its nodes have the form and the places of a tree
 abbrev pub SpelledTreesAreFormed : Type 0

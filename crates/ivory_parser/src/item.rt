@@ -1,46 +1,27 @@
 //! Items: bit data, structs, areas, imports and procedures.
 
 ghost use Rattle.std.specs.Prelude.{◌≡◌};
-ghost use Rattle.reading.specs.Reader.{below};
 ghost use Rattle.expression_parser.specs.Gives.{Gives};
 ghost use Rattle.module_grammar.specs.ItemReader as reader;
 
+use crate::contracts::contracts;
+use crate::fields::{bit_fields, struct_fields};
 use crate::header::header;
-use crate::parts::{bit_fields, contracts, struct_fields};
 use expression_parser::{Fault, int_kind, keyword, mark, name, span_of};
-use iv_words::Seq;
 use ivory_lexer::{Key, Mark, Token};
-use ivory_tree::{AreaField, AreaItem, BitField, BitsItem, Header, Item, ProcItem, StructItem};
+use ivory_tree::{AreaItem, BitsItem, Header, Item, ProcItem, StructItem};
 use module_grammar::{ItemForm, item_form};
 use statement_parser::{area_text, block, first_value, optional_keyword};
 use std::alloc::Global;
 
-/// The fields of bit data between braces.
-#[tactic(auto, using(reading::proofs::Levels::levels))]
-fn braced_bit_fields(
-    alloc: Global,
-    depth: usize,
-    tokens: &[Token],
-) -> Result<(Seq<BitField>, &[Token]), Fault<'_>>
-    ensures { Gives result (reader.braces (below (λ _. reader.bit_fields) depth) tokens.now) }
-{
-    let (_, rest) = mark(Mark::OpenBrace, tokens)?;
-    if depth == 0 {
-        return Err(Fault::TooDeep(tokens));
-    }
-    let (fields, rest) = bit_fields(alloc, rest)?;
-    let (_, rest) = mark(Mark::CloseBrace, rest)?;
-    Ok((fields, rest))
-}
-
-fn bits(alloc: Global, depth: usize, tokens: &[Token]) -> Result<(Item, &[Token]), Fault<'_>>
-    ensures { Gives result (reader.bits_reader depth tokens.now) }
+fn bits(alloc: Global, levels: usize, tokens: &[Token]) -> Result<(Item, &[Token]), Fault<'_>>
+    ensures { Gives result (reader.bits_reader levels tokens.now) }
 {
     let (_, rest) = keyword(Key::KwBitdata, tokens)?;
     let (name, rest) = name(alloc, rest)?;
     let (_, rest) = mark(Mark::Colon, rest)?;
     let (word, rest) = int_kind(rest)?;
-    let (fields, rest) = braced_bit_fields(alloc, depth, rest)?;
+    let (fields, rest) = bit_fields(alloc, levels, rest)?;
     let item = BitsItem {
         name,
         word,
@@ -50,30 +31,12 @@ fn bits(alloc: Global, depth: usize, tokens: &[Token]) -> Result<(Item, &[Token]
     Ok((Item::Bits(item), rest))
 }
 
-/// The fields of a struct between braces.
-#[tactic(auto, using(reading::proofs::Levels::levels))]
-fn braced_struct_fields(
-    alloc: Global,
-    depth: usize,
-    tokens: &[Token],
-) -> Result<(Seq<AreaField>, &[Token]), Fault<'_>>
-    ensures { Gives result (reader.braces (below reader.struct_fields depth) tokens.now) }
-{
-    let (_, rest) = mark(Mark::OpenBrace, tokens)?;
-    if depth == 0 {
-        return Err(Fault::TooDeep(tokens));
-    }
-    let (fields, rest) = struct_fields(alloc, depth - 1, rest)?;
-    let (_, rest) = mark(Mark::CloseBrace, rest)?;
-    Ok((fields, rest))
-}
-
-fn structure(alloc: Global, depth: usize, tokens: &[Token]) -> Result<(Item, &[Token]), Fault<'_>>
-    ensures { Gives result (reader.structure_reader depth tokens.now) }
+fn structure(alloc: Global, levels: usize, tokens: &[Token]) -> Result<(Item, &[Token]), Fault<'_>>
+    ensures { Gives result (reader.structure_reader levels tokens.now) }
 {
     let (_, rest) = keyword(Key::KwStruct, tokens)?;
     let (name, rest) = name(alloc, rest)?;
-    let (fields, rest) = braced_struct_fields(alloc, depth, rest)?;
+    let (fields, rest) = struct_fields(alloc, levels, rest)?;
     let item = StructItem {
         name,
         fields,
@@ -82,15 +45,15 @@ fn structure(alloc: Global, depth: usize, tokens: &[Token]) -> Result<(Item, &[T
     Ok((Item::Struct(item), rest))
 }
 
-fn area(alloc: Global, depth: usize, tokens: &[Token]) -> Result<(Item, &[Token]), Fault<'_>>
-    ensures { Gives result (reader.area_reader depth tokens.now) }
+fn area(alloc: Global, levels: usize, tokens: &[Token]) -> Result<(Item, &[Token]), Fault<'_>>
+    ensures { Gives result (reader.area_reader levels tokens.now) }
 {
     let (constant, rest) = optional_keyword(Key::KwConst, tokens);
     let (_, rest) = keyword(Key::KwArea, rest)?;
     let (name, rest) = name(alloc, rest)?;
     let (_, rest) = mark(Mark::Colon, rest)?;
-    let (area, rest) = area_text(alloc, depth, rest)?;
-    let (init, rest) = first_value(alloc, depth, rest)?;
+    let (area, rest) = area_text(alloc, levels, rest)?;
+    let (init, rest) = first_value(alloc, levels, rest)?;
     let (_, rest) = mark(Mark::Semicolon, rest)?;
     let item = AreaItem {
         name,
@@ -103,11 +66,11 @@ fn area(alloc: Global, depth: usize, tokens: &[Token]) -> Result<(Item, &[Token]
 }
 
 /// An import, whose header has the place of the item.
-fn import(alloc: Global, depth: usize, tokens: &[Token]) -> Result<(Item, &[Token]), Fault<'_>>
-    ensures { Gives result (reader.import_reader depth tokens.now) }
+fn import(alloc: Global, levels: usize, tokens: &[Token]) -> Result<(Item, &[Token]), Fault<'_>>
+    ensures { Gives result (reader.import_reader levels tokens.now) }
 {
     let (_, rest) = keyword(Key::KwImport, tokens)?;
-    let (header, rest) = header(alloc, depth, rest)?;
+    let (header, rest) = header(alloc, levels, rest)?;
     let (_, rest) = mark(Mark::Semicolon, rest)?;
     let header = Header {
         span: span_of(tokens, rest),
@@ -116,14 +79,14 @@ fn import(alloc: Global, depth: usize, tokens: &[Token]) -> Result<(Item, &[Toke
     Ok((Item::Import(header), rest))
 }
 
-fn procedure(alloc: Global, depth: usize, tokens: &[Token]) -> Result<(Item, &[Token]), Fault<'_>>
-    ensures { Gives result (reader.procedure_reader depth tokens.now) }
+fn procedure(alloc: Global, levels: usize, tokens: &[Token]) -> Result<(Item, &[Token]), Fault<'_>>
+    ensures { Gives result (reader.procedure_reader levels tokens.now) }
 {
     let (exported, rest) = optional_keyword(Key::KwExport, tokens);
     let (_, rest) = keyword(Key::KwProc, rest)?;
-    let (header, rest) = header(alloc, depth, rest)?;
-    let (contracts, rest) = contracts(alloc, depth, rest)?;
-    let (body, rest) = block(alloc, depth, rest)?;
+    let (header, rest) = header(alloc, levels, rest)?;
+    let (contracts, rest) = contracts(alloc, levels, rest)?;
+    let (body, rest) = block(alloc, levels, rest)?;
     let item = ProcItem {
         exported: exported.is_some(),
         header,
@@ -137,29 +100,29 @@ fn procedure(alloc: Global, depth: usize, tokens: &[Token]) -> Result<(Item, &[T
 fn of_form(
     alloc: Global,
     form: ItemForm,
-    depth: usize,
+    levels: usize,
     tokens: &[Token],
 ) -> Result<(Item, &[Token]), Fault<'_>>
-    ensures { Gives result (reader.form_reader depth form tokens.now) }
+    ensures { Gives result (reader.form_reader levels form tokens.now) }
 {
     match form {
-        ItemForm::Bits => bits(alloc, depth, tokens),
-        ItemForm::Struct => structure(alloc, depth, tokens),
-        ItemForm::Area => area(alloc, depth, tokens),
-        ItemForm::Import => import(alloc, depth, tokens),
+        ItemForm::Bits => bits(alloc, levels, tokens),
+        ItemForm::Struct => structure(alloc, levels, tokens),
+        ItemForm::Area => area(alloc, levels, tokens),
+        ItemForm::Import => import(alloc, levels, tokens),
     }
 }
 
 /// An item. Where no other form begins so, a procedure is wanted.
 #[tactic(auto, unfolding(module_grammar::specs::ItemReader::item))]
-pub fn item(alloc: Global, depth: usize, tokens: &[Token]) -> Result<(Item, &[Token]), Fault<'_>>
-    ensures { Gives result (reader.item depth tokens.now) }
+pub fn item(alloc: Global, levels: usize, tokens: &[Token]) -> Result<(Item, &[Token]), Fault<'_>>
+    ensures { Gives result (reader.item levels tokens.now) }
 {
     match tokens {
         [first, ..] => match item_form(&first.kind) {
-            Some(form) => of_form(alloc, form, depth, tokens),
-            None => procedure(alloc, depth, tokens),
+            Some(form) => of_form(alloc, form, levels, tokens),
+            None => procedure(alloc, levels, tokens),
         },
-        [] => procedure(alloc, depth, tokens),
+        [] => procedure(alloc, levels, tokens),
     }
 }

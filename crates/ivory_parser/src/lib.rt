@@ -3,10 +3,11 @@
 #![tactic(auto)]
 
 mod answer;
+mod contracts;
+mod fields;
 mod header;
 mod item;
 mod module;
-mod parts;
 
 pub use answer::{SyntaxFault, parse};
 pub use ivory_tree::{

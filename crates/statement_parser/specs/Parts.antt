@@ -1,5 +1,6 @@
 -- Readers of parts of statements, as functions of their own read them. The number is that of the levels that are left to nest.
 use Rattle.std.specs.Prelude.{ℕ, Option}
+use Rattle.std.specs.Option.{option_map}
 use Rattle.iv_words.specs.declared.Name.{Name}
 use Rattle.ivory_lexer.specs.declared.Token.{Token}
 use Rattle.ivory_lexer.specs.declared.Mark.{Mark}
@@ -14,14 +15,18 @@ use Rattle.ivory_tree.specs.declared.Expr.{Expr}
 use Rattle.ivory_tree.specs.declared.StmtKind.{StmtKind}
 use Rattle.ivory_tree.specs.declared.StmtKind.TheVariants as form
 use Rattle.ivory_tree.specs.declared.Block.{Block}
-use Rattle.reading.specs.Reader.{Reader, ◌>>=◌, ◌<$>◌, accept, after, before, below, dispatch, optional}
-use Rattle.expression_grammar.specs.Tokens.{is_key, word_of}
+use Rattle.reading.specs.Reader.{Reader, ◌>>=◌, ◌<$>◌, accept, after, before, below, dispatch, give, nested, optional}
+use Rattle.expression_grammar.specs.Tokens.{symbol, is_key, word_of}
 use Rattle.expression_grammar.specs.Reader.{mark_reader, key_reader, expression}
 use Rattle.module_grammar.specs.Forms.{statement_form_of}
 use Rattle.module_grammar.specs.TypeReader.{placed, value_reader, area}
 use Rattle.module_grammar.specs.Trees as tree
 use Rattle.module_grammar.specs.InitReader.{first_value}
 use Rattle.module_grammar.specs.StatementReader.{semicolon, call, postfix, let_value, call_reader, form_reader, alternative_reader, block, if_rest}
+
+-- a bracket, and how many levels are left behind it
+abbrev pub opening : Mark → ℕ → Reader Token ℕ
+opening m k = nested (symbol m) (option_map (λ j _. give j) (below (λ j. j) k))
 
 -- call ";" and expression ";", bound to a name
 

@@ -4,6 +4,7 @@ ghost use Rattle.expression_parser.specs.Gives.{Gives};
 ghost use Rattle.module_grammar.specs.TypeReader as reader;
 ghost use Rattle.statement_parser.specs.Parts as parts;
 
+use crate::list::open;
 use crate::types::value;
 use expression_parser::{Fault, keyword, mark, number, span_of, starts_key, starts_mark, word};
 use iv_words::Box;
@@ -15,28 +16,25 @@ use std::alloc::Global;
 #[cycle(areas)]
 fn array_rest(
     alloc: Global,
-    depth: usize,
+    levels: usize,
     tokens: &[Token],
 ) -> Result<(AreaKind, &[Token]), Fault<'_>>
-    ensures { Gives result (reader.array_rest (reader.area depth) tokens.now) }
+    ensures { Gives result (reader.array_rest (reader.area levels) tokens.now) }
 {
     let (length, rest) = number(tokens)?;
     let (_, rest) = mark(Mark::CloseBracket, rest)?;
-    let (element, rest) = area_text(alloc, depth, rest)?;
+    let (element, rest) = area_text(alloc, levels, rest)?;
     Ok((AreaKind::Array(length, Box::new(alloc, element)?), rest))
 }
 
 /// An array, whose `[` is open as far as the element's end.
 #[cycle(areas)]
-#[tactic(auto, using(reading::proofs::Levels::levels))]
-fn array(alloc: Global, depth: usize, tokens: &[Token]) -> Result<(AreaText, &[Token]), Fault<'_>>
-    ensures { Gives result (reader.array_reader (below reader.area depth) tokens.now) }
+#[tactic(auto, using(crate::proofs::Opening::openings))]
+fn array(alloc: Global, levels: usize, tokens: &[Token]) -> Result<(AreaText, &[Token]), Fault<'_>>
+    ensures { Gives result (reader.array_reader (below reader.area levels) tokens.now) }
 {
-    let (_, rest) = mark(Mark::OpenBracket, tokens)?;
-    if depth == 0 {
-        return Err(Fault::TooDeep(tokens));
-    }
-    let (kind, rest) = array_rest(alloc, depth - 1, rest)?;
+    let (inner, rest) = open(Mark::OpenBracket, levels, tokens)?;
+    let (kind, rest) = array_rest(alloc, inner, rest)?;
     let span = span_of(tokens, rest);
     Ok((AreaText { kind, span }, rest))
 }
@@ -51,10 +49,10 @@ fn structure(alloc: Global, tokens: &[Token]) -> Result<(AreaText, &[Token]), Fa
     Ok((AreaText { kind, span }, rest))
 }
 
-fn stored(alloc: Global, depth: usize, tokens: &[Token]) -> Result<(AreaText, &[Token]), Fault<'_>>
-    ensures { Gives result (parts.stored_area depth tokens.now) }
+fn stored(alloc: Global, levels: usize, tokens: &[Token]) -> Result<(AreaText, &[Token]), Fault<'_>>
+    ensures { Gives result (parts.stored_area levels tokens.now) }
 {
-    let (kind, rest) = value(alloc, depth, tokens)?;
+    let (kind, rest) = value(alloc, levels, tokens)?;
     let span = span_of(tokens, rest);
     let kind = AreaKind::Stored(Box::new(alloc, TypeText { kind, span })?);
     Ok((AreaText { kind, span }, rest))
@@ -64,21 +62,21 @@ fn stored(alloc: Global, depth: usize, tokens: &[Token]) -> Result<(AreaText, &[
 ///
 /// # Errors
 ///
-/// The first token with which no area goes on, or the first that nests deeper than `depth` levels.
+/// The first token with which no area goes on, or the first that nests deeper than `levels` levels.
 #[cycle(areas)]
 #[tactic(auto, using(module_grammar::proofs::Unfold::area_below))]
 pub fn area_text(
     alloc: Global,
-    depth: usize,
+    levels: usize,
     tokens: &[Token],
 ) -> Result<(AreaText, &[Token]), Fault<'_>>
-    ensures { Gives result (reader.area depth tokens.now) }
+    ensures { Gives result (reader.area levels tokens.now) }
 {
     if starts_mark(Mark::OpenBracket, tokens) {
-        array(alloc, depth, tokens)
+        array(alloc, levels, tokens)
     } else if starts_key(Key::KwStruct, tokens) {
         structure(alloc, tokens)
     } else {
-        stored(alloc, depth, tokens)
+        stored(alloc, levels, tokens)
     }
 }

@@ -6,6 +6,7 @@ ghost use Rattle.expression_grammar.specs.Reader.{mark_reader};
 ghost use Rattle.expression_parser.specs.Gives.{Gives};
 ghost use Rattle.module_grammar.specs.InitReader as reader;
 
+use crate::list::open;
 use expression_parser::{Fault, expression, mark, span_of, starts_mark};
 use iv_words::{Seq, Span};
 use ivory_lexer::{Mark, Token};
@@ -15,25 +16,25 @@ use std::alloc::Global;
 #[cycle(inits)]
 fn next_init(
     alloc: Global,
-    depth: usize,
+    levels: usize,
     tokens: &[Token],
 ) -> Result<(InitText, &[Token]), Fault<'_>>
-    ensures { Gives result (after (mark_reader marks.Comma) (reader.init depth) tokens.now) }
+    ensures { Gives result (after (mark_reader marks.Comma) (reader.init levels) tokens.now) }
 {
     let (_, rest) = mark(Mark::Comma, tokens)?;
-    init(alloc, depth, rest)
+    init(alloc, levels, rest)
 }
 
 #[cycle(inits)]
 fn more_inits(
     alloc: Global,
-    depth: usize,
+    levels: usize,
     first: InitText,
     tokens: &[Token],
 ) -> Result<(Seq<InitText>, &[Token]), Fault<'_>>
-    ensures { Gives result (mapped (λ more. first ∷ more) (many (is_mark marks.Comma) (after (mark_reader marks.Comma) (reader.init depth)) tokens.now)) }
+    ensures { Gives result (mapped (λ more. first ∷ more) (many (is_mark marks.Comma) (after (mark_reader marks.Comma) (reader.init levels)) tokens.now)) }
 {
-    let mut inits = Seq::new(alloc);
+    let mut inits = Seq::with_capacity(alloc, 1)?;
     inits.push(first)?;
     let mut rest = tokens;
     // Each further one takes a token at least.
@@ -41,7 +42,7 @@ fn more_inits(
         if !starts_mark(Mark::Comma, rest) {
             break;
         }
-        let (next, after) = next_init(alloc, depth, rest)?;
+        let (next, after) = next_init(alloc, levels, rest)?;
         inits.push(next)?;
         rest = after;
     }
@@ -52,43 +53,40 @@ fn more_inits(
 #[cycle(inits)]
 fn some_inits(
     alloc: Global,
-    depth: usize,
+    levels: usize,
     tokens: &[Token],
 ) -> Result<(Seq<InitText>, &[Token]), Fault<'_>>
-    ensures { Gives result (separated (is_mark marks.Comma) (mark_reader marks.Comma) (reader.init depth) tokens.now) }
+    ensures { Gives result (separated (is_mark marks.Comma) (mark_reader marks.Comma) (reader.init levels) tokens.now) }
 {
-    let (first, rest) = init(alloc, depth, tokens)?;
-    more_inits(alloc, depth, first, rest)
+    let (first, rest) = init(alloc, levels, tokens)?;
+    more_inits(alloc, levels, first, rest)
 }
 
 /// None or more, up to the `}`.
 #[cycle(inits)]
 fn up_to_brace(
     alloc: Global,
-    depth: usize,
+    levels: usize,
     tokens: &[Token],
 ) -> Result<((Seq<InitText>, Span), &[Token]), Fault<'_>>
-    ensures { Gives result (reader.up_to_brace (reader.init depth) tokens.now) }
+    ensures { Gives result (reader.up_to_brace (reader.init levels) tokens.now) }
 {
     if starts_mark(Mark::CloseBrace, tokens) {
         let (to, rest) = mark(Mark::CloseBrace, tokens)?;
         return Ok(((Seq::new(alloc), to), rest));
     }
-    let (inits, rest) = some_inits(alloc, depth, tokens)?;
+    let (inits, rest) = some_inits(alloc, levels, tokens)?;
     let (to, rest) = mark(Mark::CloseBrace, rest)?;
     Ok(((inits, to), rest))
 }
 
 #[cycle(inits)]
-#[tactic(auto, using(reading::proofs::Levels::levels))]
-fn braced(alloc: Global, depth: usize, tokens: &[Token]) -> Result<(InitText, &[Token]), Fault<'_>>
-    ensures { Gives result (reader.braced_reader (below reader.init depth) tokens.now) }
+#[tactic(auto, using(crate::proofs::Opening::openings))]
+fn braced(alloc: Global, levels: usize, tokens: &[Token]) -> Result<(InitText, &[Token]), Fault<'_>>
+    ensures { Gives result (reader.braced_reader (below reader.init levels) tokens.now) }
 {
-    let (_, rest) = mark(Mark::OpenBrace, tokens)?;
-    if depth == 0 {
-        return Err(Fault::TooDeep(tokens));
-    }
-    let ((inits, _), rest) = up_to_brace(alloc, depth - 1, rest)?;
+    let (inner, rest) = open(Mark::OpenBrace, levels, tokens)?;
+    let ((inits, _), rest) = up_to_brace(alloc, inner, rest)?;
     let span = span_of(tokens, rest);
     Ok((InitText::Many(inits, span), rest))
 }
@@ -96,13 +94,13 @@ fn braced(alloc: Global, depth: usize, tokens: &[Token]) -> Result<(InitText, &[
 /// An initializer, with so many levels left to nest.
 #[cycle(inits)]
 #[tactic(auto, using(module_grammar::proofs::Unfold::init_below))]
-fn init(alloc: Global, depth: usize, tokens: &[Token]) -> Result<(InitText, &[Token]), Fault<'_>>
-    ensures { Gives result (reader.init depth tokens.now) }
+fn init(alloc: Global, levels: usize, tokens: &[Token]) -> Result<(InitText, &[Token]), Fault<'_>>
+    ensures { Gives result (reader.init levels tokens.now) }
 {
     if starts_mark(Mark::OpenBrace, tokens) {
-        return braced(alloc, depth, tokens);
+        return braced(alloc, levels, tokens);
     }
-    let (value, rest) = expression(alloc, depth, tokens)?;
+    let (value, rest) = expression(alloc, levels, tokens)?;
     Ok((InitText::One(value), rest))
 }
 
@@ -110,18 +108,18 @@ fn init(alloc: Global, depth: usize, tokens: &[Token]) -> Result<(InitText, &[To
 ///
 /// # Errors
 ///
-/// The first token with which no initializer goes on, or the first that nests deeper than `depth` levels.
+/// The first token with which no initializer goes on, or the first that nests deeper than `levels` levels.
 pub fn first_value(
     alloc: Global,
-    depth: usize,
+    levels: usize,
     tokens: &[Token],
 ) -> Result<(Option<InitText>, &[Token]), Fault<'_>>
-    ensures { Gives result (reader.first_value depth tokens.now) }
+    ensures { Gives result (reader.first_value levels tokens.now) }
 {
     if !starts_mark(Mark::Assign, tokens) {
         return Ok((None, tokens));
     }
     let (_, rest) = mark(Mark::Assign, tokens)?;
-    let (value, rest) = init(alloc, depth, rest)?;
+    let (value, rest) = init(alloc, levels, rest)?;
     Ok((Some(value), rest))
 }

@@ -42,12 +42,12 @@ fn starts_call(tokens: &[Token]) -> bool
 fn bound_call(
     alloc: Global,
     bound: Name,
-    depth: usize,
+    levels: usize,
     tokens: &[Token],
 ) -> Result<(StmtKind, &[Token]), Fault<'_>>
-    ensures { Gives result (parts.bound_call depth bound tokens.now) }
+    ensures { Gives result (parts.bound_call levels bound tokens.now) }
 {
-    let (call, rest) = call(alloc, depth, tokens)?;
+    let (call, rest) = call(alloc, levels, tokens)?;
     let (_, rest) = semicolon(rest)?;
     Ok((StmtKind::LetCall(bound, call), rest))
 }
@@ -55,12 +55,12 @@ fn bound_call(
 fn bound_expression(
     alloc: Global,
     bound: Name,
-    depth: usize,
+    levels: usize,
     tokens: &[Token],
 ) -> Result<(StmtKind, &[Token]), Fault<'_>>
-    ensures { Gives result (parts.bound_expression depth bound tokens.now) }
+    ensures { Gives result (parts.bound_expression levels bound tokens.now) }
 {
-    let (value, rest) = expression(alloc, depth, tokens)?;
+    let (value, rest) = expression(alloc, levels, tokens)?;
     let (_, rest) = semicolon(rest)?;
     Ok((StmtKind::Let(bound, value), rest))
 }
@@ -69,102 +69,102 @@ fn bound_expression(
 fn bound_value(
     alloc: Global,
     bound: Name,
-    depth: usize,
+    levels: usize,
     tokens: &[Token],
 ) -> Result<(StmtKind, &[Token]), Fault<'_>>
-    ensures { Gives result (parts.bound_value depth bound tokens.now) }
+    ensures { Gives result (parts.bound_value levels bound tokens.now) }
 {
     let (_, rest) = mark(Mark::Assign, tokens)?;
     if starts_call(rest) {
-        bound_call(alloc, bound, depth, rest)
+        bound_call(alloc, bound, levels, rest)
     } else {
-        bound_expression(alloc, bound, depth, rest)
+        bound_expression(alloc, bound, levels, rest)
     }
 }
 
 pub fn let_bound(
     alloc: Global,
-    depth: usize,
+    levels: usize,
     tokens: &[Token],
 ) -> Result<(StmtKind, &[Token]), Fault<'_>>
-    ensures { Gives result (reader.let_reader depth tokens.now) }
+    ensures { Gives result (reader.let_reader levels tokens.now) }
 {
     let (_, rest) = keyword(Key::KwLet, tokens)?;
     let (bound, rest) = name(alloc, rest)?;
-    bound_value(alloc, bound, depth, rest)
+    bound_value(alloc, bound, levels, rest)
 }
 
 /// A `:`, an area and its first value, up to the `;`.
 pub fn area_and_value(
     alloc: Global,
-    depth: usize,
+    levels: usize,
     tokens: &[Token],
 ) -> Result<((AreaText, Option<InitText>), &[Token]), Fault<'_>>
-    ensures { Gives result (parts.area_and_value depth tokens.now) }
+    ensures { Gives result (parts.area_and_value levels tokens.now) }
 {
     let (_, rest) = mark(Mark::Colon, tokens)?;
-    let (area, rest) = area_text(alloc, depth, rest)?;
-    let (value, rest) = first_value(alloc, depth, rest)?;
+    let (area, rest) = area_text(alloc, levels, rest)?;
+    let (value, rest) = first_value(alloc, levels, rest)?;
     let (_, rest) = semicolon(rest)?;
     Ok(((area, value), rest))
 }
 
 pub fn allocated(
     alloc: Global,
-    depth: usize,
+    levels: usize,
     tokens: &[Token],
 ) -> Result<(StmtKind, &[Token]), Fault<'_>>
-    ensures { Gives result (reader.alloc_reader depth tokens.now) }
+    ensures { Gives result (reader.alloc_reader levels tokens.now) }
 {
     let (_, rest) = keyword(Key::KwAlloc, tokens)?;
     let (bound, rest) = name(alloc, rest)?;
-    let ((area, value), rest) = area_and_value(alloc, depth, rest)?;
+    let ((area, value), rest) = area_and_value(alloc, levels, rest)?;
     Ok((StmtKind::Alloc(bound, area, value), rest))
 }
 
 /// A `=` and an expression, up to the `;`.
-fn new_value(alloc: Global, depth: usize, tokens: &[Token]) -> Result<(Expr, &[Token]), Fault<'_>>
-    ensures { Gives result (parts.last_value marks.Assign (expressions.expression depth) tokens.now) }
+fn new_value(alloc: Global, levels: usize, tokens: &[Token]) -> Result<(Expr, &[Token]), Fault<'_>>
+    ensures { Gives result (parts.last_value marks.Assign (expressions.expression levels) tokens.now) }
 {
     let (_, rest) = mark(Mark::Assign, tokens)?;
-    let (value, rest) = expression(alloc, depth, rest)?;
+    let (value, rest) = expression(alloc, levels, rest)?;
     let (_, rest) = semicolon(rest)?;
     Ok((value, rest))
 }
 
 pub fn stored(
     alloc: Global,
-    depth: usize,
+    levels: usize,
     tokens: &[Token],
 ) -> Result<(StmtKind, &[Token]), Fault<'_>>
-    ensures { Gives result (reader.store_reader depth tokens.now) }
+    ensures { Gives result (reader.store_reader levels tokens.now) }
 {
     let (_, rest) = mark(Mark::Star, tokens)?;
-    let (target, rest) = postfix(alloc, depth, rest)?;
-    let (value, rest) = new_value(alloc, depth, rest)?;
+    let (target, rest) = postfix(alloc, levels, rest)?;
+    let (value, rest) = new_value(alloc, levels, rest)?;
     Ok((StmtKind::Store(target, value), rest))
 }
 
 /// A `,` and what is copied, up to the `;`.
-fn source(alloc: Global, depth: usize, tokens: &[Token]) -> Result<(Expr, &[Token]), Fault<'_>>
-    ensures { Gives result (parts.last_value marks.Comma (reader.postfix depth) tokens.now) }
+fn source(alloc: Global, levels: usize, tokens: &[Token]) -> Result<(Expr, &[Token]), Fault<'_>>
+    ensures { Gives result (parts.last_value marks.Comma (reader.postfix levels) tokens.now) }
 {
     let (_, rest) = mark(Mark::Comma, tokens)?;
-    let (source, rest) = postfix(alloc, depth, rest)?;
+    let (source, rest) = postfix(alloc, levels, rest)?;
     let (_, rest) = semicolon(rest)?;
     Ok((source, rest))
 }
 
 pub fn copied(
     alloc: Global,
-    depth: usize,
+    levels: usize,
     tokens: &[Token],
 ) -> Result<(StmtKind, &[Token]), Fault<'_>>
-    ensures { Gives result (reader.copy_reader depth tokens.now) }
+    ensures { Gives result (reader.copy_reader levels tokens.now) }
 {
     let (_, rest) = keyword(Key::KwCopy, tokens)?;
-    let (target, rest) = postfix(alloc, depth, rest)?;
-    let (source, rest) = source(alloc, depth, rest)?;
+    let (target, rest) = postfix(alloc, levels, rest)?;
+    let (source, rest) = source(alloc, levels, rest)?;
     Ok((StmtKind::Copy(target, source), rest))
 }
 
@@ -178,42 +178,42 @@ pub fn broken_off(tokens: &[Token]) -> Result<(StmtKind, &[Token]), Fault<'_>>
 
 pub fn returned(
     alloc: Global,
-    depth: usize,
+    levels: usize,
     tokens: &[Token],
 ) -> Result<(StmtKind, &[Token]), Fault<'_>>
-    ensures { Gives result (reader.return_reader depth tokens.now) }
+    ensures { Gives result (reader.return_reader levels tokens.now) }
 {
     let (_, rest) = keyword(Key::KwReturn, tokens)?;
     if starts_mark(Mark::Semicolon, rest) {
         let (_, rest) = semicolon(rest)?;
         return Ok((StmtKind::Return(None), rest));
     }
-    let (value, rest) = expression(alloc, depth, rest)?;
+    let (value, rest) = expression(alloc, levels, rest)?;
     let (_, rest) = semicolon(rest)?;
     Ok((StmtKind::Return(Some(value)), rest))
 }
 
 pub fn asserted(
     alloc: Global,
-    depth: usize,
+    levels: usize,
     tokens: &[Token],
 ) -> Result<(StmtKind, &[Token]), Fault<'_>>
-    ensures { Gives result (reader.assert_reader depth tokens.now) }
+    ensures { Gives result (reader.assert_reader levels tokens.now) }
 {
     let (_, rest) = keyword(Key::KwAssert, tokens)?;
-    let (condition, rest) = within(alloc, depth, rest)?;
+    let (condition, rest) = within(alloc, levels, rest)?;
     let (_, rest) = semicolon(rest)?;
     Ok((StmtKind::Assert(condition), rest))
 }
 
 pub fn called(
     alloc: Global,
-    depth: usize,
+    levels: usize,
     tokens: &[Token],
 ) -> Result<(StmtKind, &[Token]), Fault<'_>>
-    ensures { Gives result (reader.call_reader depth tokens.now) }
+    ensures { Gives result (reader.call_reader levels tokens.now) }
 {
-    let (call, rest) = call(alloc, depth, tokens)?;
+    let (call, rest) = call(alloc, levels, tokens)?;
     let (_, rest) = semicolon(rest)?;
     Ok((StmtKind::Call(call), rest))
 }

@@ -9,6 +9,7 @@ ghost use Rattle.module_grammar.specs.Trees as tree;
 ghost use Rattle.module_grammar.specs.StatementReader as reader;
 ghost use Rattle.statement_parser.specs.Parts as parts;
 
+use crate::list::open;
 use crate::simple::{allocated, asserted, broken_off, called, copied, let_bound, returned, stored};
 use crate::types::number_within;
 use expression_parser::{Fault, expression, keyword, mark, name, span_of, starts_key};
@@ -34,10 +35,10 @@ fn starts_statement(tokens: &[Token]) -> bool
 #[cycle(statements)]
 fn statements(
     alloc: Global,
-    depth: usize,
+    levels: usize,
     tokens: &[Token],
 ) -> Result<(Seq<Stmt>, &[Token]), Fault<'_>>
-    ensures { Gives result (many reader.begins_statement (reader.statement depth) tokens.now) }
+    ensures { Gives result (many reader.begins_statement (reader.statement levels) tokens.now) }
 {
     let mut stmts = Seq::new(alloc);
     let mut rest = tokens;
@@ -46,7 +47,7 @@ fn statements(
         if !starts_statement(rest) {
             break;
         }
-        let (next, after) = statement(alloc, depth, rest)?;
+        let (next, after) = statement(alloc, levels, rest)?;
         stmts.push(next)?;
         rest = after;
     }
@@ -57,17 +58,14 @@ fn statements(
 ///
 /// # Errors
 ///
-/// The first token with which no block goes on, or the first that nests deeper than `depth` levels.
+/// The first token with which no block goes on, or the first that nests deeper than `levels` levels.
 #[cycle(statements)]
-#[tactic(auto, using(reading::proofs::Levels::levels), unfolding(module_grammar::specs::StatementReader::block_reader))]
-pub fn block(alloc: Global, depth: usize, tokens: &[Token]) -> Result<(Block, &[Token]), Fault<'_>>
-    ensures { Gives result (reader.block depth tokens.now) }
+#[tactic(auto, using(crate::proofs::Opening::openings), unfolding(module_grammar::specs::StatementReader::block_reader))]
+pub fn block(alloc: Global, levels: usize, tokens: &[Token]) -> Result<(Block, &[Token]), Fault<'_>>
+    ensures { Gives result (reader.block levels tokens.now) }
 {
-    let (_, rest) = mark(Mark::OpenBrace, tokens)?;
-    if depth == 0 {
-        return Err(Fault::TooDeep(tokens));
-    }
-    let (stmts, rest) = statements(alloc, depth - 1, rest)?;
+    let (inner, rest) = open(Mark::OpenBrace, levels, tokens)?;
+    let (stmts, rest) = statements(alloc, inner, rest)?;
     let (_, rest) = mark(Mark::CloseBrace, rest)?;
     let span = span_of(tokens, rest);
     Ok((Block { stmts, span }, rest))
@@ -78,37 +76,37 @@ pub fn block(alloc: Global, depth: usize, tokens: &[Token]) -> Result<(Block, &[
 fn keyword_and_block(
     alloc: Global,
     wanted: Key,
-    depth: usize,
+    levels: usize,
     tokens: &[Token],
 ) -> Result<(Block, &[Token]), Fault<'_>>
-    ensures { Gives result (parts.keyword_and_block depth wanted tokens.now) }
+    ensures { Gives result (parts.keyword_and_block levels wanted tokens.now) }
 {
     let (_, rest) = keyword(wanted, tokens)?;
-    block(alloc, depth, rest)
+    block(alloc, levels, rest)
 }
 
 /// The name of a loop and how many values it takes at most.
 fn counter(
     alloc: Global,
-    depth: usize,
+    levels: usize,
     tokens: &[Token],
 ) -> Result<((Name, u64), &[Token]), Fault<'_>>
-    ensures { Gives result (reader.counter_reader depth tokens.now) }
+    ensures { Gives result (reader.counter_reader levels tokens.now) }
 {
     let (name, rest) = name(alloc, tokens)?;
     let (_, rest) = mark(Mark::Colon, rest)?;
     let (_, rest) = keyword(Key::KwIx, rest)?;
-    let (length, rest) = number_within(depth, rest)?;
+    let (length, rest) = number_within(levels, rest)?;
     Ok(((name, length), rest))
 }
 
 #[cycle(statements)]
-fn map(alloc: Global, depth: usize, tokens: &[Token]) -> Result<(StmtKind, &[Token]), Fault<'_>>
-    ensures { Gives result (reader.map_reader depth (reader.block depth) tokens.now) }
+fn map(alloc: Global, levels: usize, tokens: &[Token]) -> Result<(StmtKind, &[Token]), Fault<'_>>
+    ensures { Gives result (reader.map_reader levels (reader.block levels) tokens.now) }
 {
     let (_, rest) = keyword(Key::KwMap, tokens)?;
-    let ((name, length), rest) = counter(alloc, depth, rest)?;
-    let (body, rest) = block(alloc, depth, rest)?;
+    let ((name, length), rest) = counter(alloc, levels, rest)?;
+    let (body, rest) = block(alloc, levels, rest)?;
     Ok((StmtKind::Map(name, length, body), rest))
 }
 
@@ -117,34 +115,34 @@ fn map(alloc: Global, depth: usize, tokens: &[Token]) -> Result<(StmtKind, &[Tok
 fn bound_and_block(
     alloc: Global,
     wanted: Key,
-    depth: usize,
+    levels: usize,
     tokens: &[Token],
 ) -> Result<((Expr, Block), &[Token]), Fault<'_>>
-    ensures { Gives result (parts.bound_and_block depth wanted tokens.now) }
+    ensures { Gives result (parts.bound_and_block levels wanted tokens.now) }
 {
     let (_, rest) = keyword(wanted, tokens)?;
-    let (bound, rest) = expression(alloc, depth, rest)?;
-    let (body, rest) = block(alloc, depth, rest)?;
+    let (bound, rest) = expression(alloc, levels, rest)?;
+    let (body, rest) = block(alloc, levels, rest)?;
     Ok(((bound, body), rest))
 }
 
 #[cycle(statements)]
-fn upto(alloc: Global, depth: usize, tokens: &[Token]) -> Result<(StmtKind, &[Token]), Fault<'_>>
-    ensures { Gives result (reader.bounded_reader depth keys.KwUpto keys.KwLast (λ c. Upto c.0 c.1) (reader.block depth) tokens.now) }
+fn upto(alloc: Global, levels: usize, tokens: &[Token]) -> Result<(StmtKind, &[Token]), Fault<'_>>
+    ensures { Gives result (reader.bounded_reader levels keys.KwUpto keys.KwLast (λ c. Upto c.0 c.1) (reader.block levels) tokens.now) }
 {
     let (_, rest) = keyword(Key::KwUpto, tokens)?;
-    let ((name, length), rest) = counter(alloc, depth, rest)?;
-    let ((last, body), rest) = bound_and_block(alloc, Key::KwLast, depth, rest)?;
+    let ((name, length), rest) = counter(alloc, levels, rest)?;
+    let ((last, body), rest) = bound_and_block(alloc, Key::KwLast, levels, rest)?;
     Ok((StmtKind::Upto(name, length, last, body), rest))
 }
 
 #[cycle(statements)]
-fn downto(alloc: Global, depth: usize, tokens: &[Token]) -> Result<(StmtKind, &[Token]), Fault<'_>>
-    ensures { Gives result (reader.bounded_reader depth keys.KwDownto keys.KwFirst (λ c. Downto c.0 c.1) (reader.block depth) tokens.now) }
+fn downto(alloc: Global, levels: usize, tokens: &[Token]) -> Result<(StmtKind, &[Token]), Fault<'_>>
+    ensures { Gives result (reader.bounded_reader levels keys.KwDownto keys.KwFirst (λ c. Downto c.0 c.1) (reader.block levels) tokens.now) }
 {
     let (_, rest) = keyword(Key::KwDownto, tokens)?;
-    let ((name, length), rest) = counter(alloc, depth, rest)?;
-    let ((first, body), rest) = bound_and_block(alloc, Key::KwFirst, depth, rest)?;
+    let ((name, length), rest) = counter(alloc, levels, rest)?;
+    let ((first, body), rest) = bound_and_block(alloc, Key::KwFirst, levels, rest)?;
     Ok((StmtKind::Downto(name, length, first, body), rest))
 }
 
@@ -152,7 +150,7 @@ fn downto(alloc: Global, depth: usize, tokens: &[Token]) -> Result<(StmtKind, &[
 fn only(alloc: Global, kind: StmtKind, span: Span) -> Result<Block, Memory>
     ensures { IfOk result (λ b. b ≡ tree.only kind span) }
 {
-    let mut stmts = Seq::new(alloc);
+    let mut stmts = Seq::with_capacity(alloc, 1)?;
     stmts.push(Stmt { kind, span })?;
     Ok(Block { stmts, span })
 }
@@ -160,14 +158,14 @@ fn only(alloc: Global, kind: StmtKind, span: Span) -> Result<Block, Memory>
 /// An `if` behind an `else`, which is open as far as its end.
 #[cycle(statements)]
 #[tactic(auto, using(reading::proofs::Levels::levels))]
-fn else_if(alloc: Global, depth: usize, tokens: &[Token]) -> Result<(Block, &[Token]), Fault<'_>>
-    ensures { Gives result (reader.else_if_reader (below reader.if_rest depth) tokens.now) }
+fn else_if(alloc: Global, levels: usize, tokens: &[Token]) -> Result<(Block, &[Token]), Fault<'_>>
+    ensures { Gives result (reader.else_if_reader (below reader.if_rest levels) tokens.now) }
 {
     let (_, rest) = keyword(Key::KwIf, tokens)?;
-    if depth == 0 {
+    if levels == 0 {
         return Err(Fault::TooDeep(tokens));
     }
-    let (kind, rest) = if_rest(alloc, depth - 1, rest)?;
+    let (kind, rest) = if_rest(alloc, levels - 1, rest)?;
     let span = span_of(tokens, rest);
     Ok((only(alloc, kind, span)?, rest))
 }
@@ -175,15 +173,15 @@ fn else_if(alloc: Global, depth: usize, tokens: &[Token]) -> Result<(Block, &[To
 #[cycle(statements)]
 fn alternative(
     alloc: Global,
-    depth: usize,
+    levels: usize,
     tokens: &[Token],
 ) -> Result<(Block, &[Token]), Fault<'_>>
-    ensures { Gives result (reader.alternative_reader (reader.block depth) (below reader.if_rest depth) tokens.now) }
+    ensures { Gives result (reader.alternative_reader (reader.block levels) (below reader.if_rest levels) tokens.now) }
 {
     if starts_key(Key::KwIf, tokens) {
-        else_if(alloc, depth, tokens)
+        else_if(alloc, levels, tokens)
     } else {
-        block(alloc, depth, tokens)
+        block(alloc, levels, tokens)
     }
 }
 
@@ -191,80 +189,92 @@ fn alternative(
 #[cycle(statements)]
 fn otherwise(
     alloc: Global,
-    depth: usize,
+    levels: usize,
     tokens: &[Token],
 ) -> Result<(Option<Block>, &[Token]), Fault<'_>>
-    ensures { Gives result (parts.otherwise depth tokens.now) }
+    ensures { Gives result (parts.otherwise levels tokens.now) }
 {
     if !starts_key(Key::KwElse, tokens) {
         return Ok((None, tokens));
     }
     let (_, rest) = keyword(Key::KwElse, tokens)?;
-    let (body, rest) = alternative(alloc, depth, rest)?;
+    let (body, rest) = alternative(alloc, levels, rest)?;
     Ok((Some(body), rest))
 }
 
 /// What follows an `if`.
 #[cycle(statements)]
 #[tactic(auto, using(module_grammar::proofs::Unfold::if_rest_below), unfolding(module_grammar::specs::StatementReader::if_reader))]
-fn if_rest(alloc: Global, depth: usize, tokens: &[Token]) -> Result<(StmtKind, &[Token]), Fault<'_>>
-    ensures { Gives result (reader.if_rest depth tokens.now) }
+fn if_rest(
+    alloc: Global,
+    levels: usize,
+    tokens: &[Token],
+) -> Result<(StmtKind, &[Token]), Fault<'_>>
+    ensures { Gives result (reader.if_rest levels tokens.now) }
 {
-    let (test, rest) = expression(alloc, depth, tokens)?;
-    let (body, rest) = block(alloc, depth, rest)?;
-    let (other, rest) = otherwise(alloc, depth, rest)?;
+    let (test, rest) = expression(alloc, levels, tokens)?;
+    let (body, rest) = block(alloc, levels, rest)?;
+    let (other, rest) = otherwise(alloc, levels, rest)?;
     Ok((StmtKind::If(test, body, other), rest))
 }
 
 #[cycle(statements)]
-fn if_else(alloc: Global, depth: usize, tokens: &[Token]) -> Result<(StmtKind, &[Token]), Fault<'_>>
-    ensures { Gives result (after (key_reader keys.KwIf) (reader.if_rest depth) tokens.now) }
+fn if_else(
+    alloc: Global,
+    levels: usize,
+    tokens: &[Token],
+) -> Result<(StmtKind, &[Token]), Fault<'_>>
+    ensures { Gives result (after (key_reader keys.KwIf) (reader.if_rest levels) tokens.now) }
 {
     let (_, rest) = keyword(Key::KwIf, tokens)?;
-    if_rest(alloc, depth, rest)
+    if_rest(alloc, levels, rest)
 }
 
 #[cycle(statements)]
-fn forever(alloc: Global, depth: usize, tokens: &[Token]) -> Result<(StmtKind, &[Token]), Fault<'_>>
-    ensures { Gives result (reader.narrowing_reader keys.KwForever Forever (reader.block depth) tokens.now) }
+fn forever(
+    alloc: Global,
+    levels: usize,
+    tokens: &[Token],
+) -> Result<(StmtKind, &[Token]), Fault<'_>>
+    ensures { Gives result (reader.narrowing_reader keys.KwForever Forever (reader.block levels) tokens.now) }
 {
-    let (body, rest) = keyword_and_block(alloc, Key::KwForever, depth, tokens)?;
+    let (body, rest) = keyword_and_block(alloc, Key::KwForever, levels, tokens)?;
     Ok((StmtKind::Forever(body), rest))
 }
 
 #[cycle(statements)]
 fn no_alloc(
     alloc: Global,
-    depth: usize,
+    levels: usize,
     tokens: &[Token],
 ) -> Result<(StmtKind, &[Token]), Fault<'_>>
-    ensures { Gives result (reader.narrowing_reader keys.KwNoalloc NoAlloc (reader.block depth) tokens.now) }
+    ensures { Gives result (reader.narrowing_reader keys.KwNoalloc NoAlloc (reader.block levels) tokens.now) }
 {
-    let (body, rest) = keyword_and_block(alloc, Key::KwNoalloc, depth, tokens)?;
+    let (body, rest) = keyword_and_block(alloc, Key::KwNoalloc, levels, tokens)?;
     Ok((StmtKind::NoAlloc(body), rest))
 }
 
 #[cycle(statements)]
 fn no_break(
     alloc: Global,
-    depth: usize,
+    levels: usize,
     tokens: &[Token],
 ) -> Result<(StmtKind, &[Token]), Fault<'_>>
-    ensures { Gives result (reader.narrowing_reader keys.KwNobreak NoBreak (reader.block depth) tokens.now) }
+    ensures { Gives result (reader.narrowing_reader keys.KwNobreak NoBreak (reader.block levels) tokens.now) }
 {
-    let (body, rest) = keyword_and_block(alloc, Key::KwNobreak, depth, tokens)?;
+    let (body, rest) = keyword_and_block(alloc, Key::KwNobreak, levels, tokens)?;
     Ok((StmtKind::NoBreak(body), rest))
 }
 
 #[cycle(statements)]
 fn no_return(
     alloc: Global,
-    depth: usize,
+    levels: usize,
     tokens: &[Token],
 ) -> Result<(StmtKind, &[Token]), Fault<'_>>
-    ensures { Gives result (reader.narrowing_reader keys.KwNoreturn NoReturn (reader.block depth) tokens.now) }
+    ensures { Gives result (reader.narrowing_reader keys.KwNoreturn NoReturn (reader.block levels) tokens.now) }
 {
-    let (body, rest) = keyword_and_block(alloc, Key::KwNoreturn, depth, tokens)?;
+    let (body, rest) = keyword_and_block(alloc, Key::KwNoreturn, levels, tokens)?;
     Ok((StmtKind::NoReturn(body), rest))
 }
 
@@ -272,27 +282,27 @@ fn no_return(
 fn of_form(
     alloc: Global,
     form: StatementForm,
-    depth: usize,
+    levels: usize,
     tokens: &[Token],
 ) -> Result<(StmtKind, &[Token]), Fault<'_>>
-    ensures { Gives result (reader.form_reader depth (reader.block depth) (reader.if_rest depth) form tokens.now) }
+    ensures { Gives result (reader.form_reader levels (reader.block levels) (reader.if_rest levels) form tokens.now) }
 {
     match form {
-        StatementForm::Let => let_bound(alloc, depth, tokens),
-        StatementForm::Alloc => allocated(alloc, depth, tokens),
-        StatementForm::Store => stored(alloc, depth, tokens),
-        StatementForm::Copy => copied(alloc, depth, tokens),
-        StatementForm::If => if_else(alloc, depth, tokens),
-        StatementForm::Forever => forever(alloc, depth, tokens),
-        StatementForm::Map => map(alloc, depth, tokens),
-        StatementForm::Upto => upto(alloc, depth, tokens),
-        StatementForm::Downto => downto(alloc, depth, tokens),
+        StatementForm::Let => let_bound(alloc, levels, tokens),
+        StatementForm::Alloc => allocated(alloc, levels, tokens),
+        StatementForm::Store => stored(alloc, levels, tokens),
+        StatementForm::Copy => copied(alloc, levels, tokens),
+        StatementForm::If => if_else(alloc, levels, tokens),
+        StatementForm::Forever => forever(alloc, levels, tokens),
+        StatementForm::Map => map(alloc, levels, tokens),
+        StatementForm::Upto => upto(alloc, levels, tokens),
+        StatementForm::Downto => downto(alloc, levels, tokens),
         StatementForm::Break => broken_off(tokens),
-        StatementForm::Return => returned(alloc, depth, tokens),
-        StatementForm::Assert => asserted(alloc, depth, tokens),
-        StatementForm::NoAlloc => no_alloc(alloc, depth, tokens),
-        StatementForm::NoBreak => no_break(alloc, depth, tokens),
-        StatementForm::NoReturn => no_return(alloc, depth, tokens),
+        StatementForm::Return => returned(alloc, levels, tokens),
+        StatementForm::Assert => asserted(alloc, levels, tokens),
+        StatementForm::NoAlloc => no_alloc(alloc, levels, tokens),
+        StatementForm::NoBreak => no_break(alloc, levels, tokens),
+        StatementForm::NoReturn => no_return(alloc, levels, tokens),
     }
 }
 
@@ -300,26 +310,26 @@ fn of_form(
 #[cycle(statements)]
 fn kind_of_statement(
     alloc: Global,
-    depth: usize,
+    levels: usize,
     tokens: &[Token],
 ) -> Result<(StmtKind, &[Token]), Fault<'_>>
-    ensures { Gives result (parts.kind_of_statement depth tokens.now) }
+    ensures { Gives result (parts.kind_of_statement levels tokens.now) }
 {
     match tokens {
         [first, ..] => match statement_form(&first.kind) {
-            Some(form) => of_form(alloc, form, depth, tokens),
-            None => called(alloc, depth, tokens),
+            Some(form) => of_form(alloc, form, levels, tokens),
+            None => called(alloc, levels, tokens),
         },
-        [] => called(alloc, depth, tokens),
+        [] => called(alloc, levels, tokens),
     }
 }
 
 #[cycle(statements)]
 #[tactic(auto, using(module_grammar::proofs::Unfold::statement_below), unfolding(module_grammar::specs::StatementReader::statement_reader))]
-fn statement(alloc: Global, depth: usize, tokens: &[Token]) -> Result<(Stmt, &[Token]), Fault<'_>>
-    ensures { Gives result (reader.statement depth tokens.now) }
+fn statement(alloc: Global, levels: usize, tokens: &[Token]) -> Result<(Stmt, &[Token]), Fault<'_>>
+    ensures { Gives result (reader.statement levels tokens.now) }
 {
-    let (kind, rest) = kind_of_statement(alloc, depth, tokens)?;
+    let (kind, rest) = kind_of_statement(alloc, levels, tokens)?;
     let span = span_of(tokens, rest);
     Ok((Stmt { kind, span }, rest))
 }

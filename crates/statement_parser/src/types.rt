@@ -9,6 +9,7 @@ ghost use Rattle.module_grammar.specs.TypeReader as reader;
 ghost use Rattle.statement_parser.specs.Parts as parts;
 
 use crate::area::area_text;
+use crate::list::open;
 use expression_parser::{Fault, int_kind, keyword, mark, number, span_of, starts_key, word};
 use iv_words::Span;
 use ivory_lexer::{Key, Mark, Token, TokenKind};
@@ -27,14 +28,11 @@ pub fn optional_keyword(wanted: Key, tokens: &[Token]) -> (Option<Span>, &[Token
 }
 
 /// A number between parentheses.
-#[tactic(auto, using(reading::proofs::Levels::levels))]
-pub fn number_within(depth: usize, tokens: &[Token]) -> Result<(u64, &[Token]), Fault<'_>>
-    ensures { Gives result (reader.number_within depth tokens.now) }
+#[tactic(auto, using(crate::proofs::Opening::openings))]
+pub fn number_within(levels: usize, tokens: &[Token]) -> Result<(u64, &[Token]), Fault<'_>>
+    ensures { Gives result (reader.number_within levels tokens.now) }
 {
-    let (_, rest) = mark(Mark::OpenParen, tokens)?;
-    if depth == 0 {
-        return Err(Fault::TooDeep(tokens));
-    }
+    let (_, rest) = open(Mark::OpenParen, levels, tokens)?;
     let (length, rest) = number(rest)?;
     let (_, rest) = mark(Mark::CloseParen, rest)?;
     Ok((length, rest))
@@ -42,10 +40,10 @@ pub fn number_within(depth: usize, tokens: &[Token]) -> Result<(u64, &[Token]), 
 
 fn of_form(
     form: ValueForm,
-    depth: usize,
+    levels: usize,
     tokens: &[Token],
 ) -> Result<(TypeKind, &[Token]), Fault<'_>>
-    ensures { Gives result (reader.value_form_reader depth form tokens.now) }
+    ensures { Gives result (reader.value_form_reader levels form tokens.now) }
 {
     match form {
         ValueForm::Truth => {
@@ -58,7 +56,7 @@ fn of_form(
         }
         ValueForm::Index => {
             let (_, rest) = keyword(Key::KwIx, tokens)?;
-            let (length, rest) = number_within(depth, rest)?;
+            let (length, rest) = number_within(levels, rest)?;
             Ok((TypeKind::Ix(length), rest))
         }
     }
@@ -75,14 +73,14 @@ fn bits(alloc: Global, tokens: &[Token]) -> Result<(TypeKind, &[Token]), Fault<'
 #[tactic(auto, unfolding(module_grammar::specs::TypeReader::value_reader))]
 pub fn value(
     alloc: Global,
-    depth: usize,
+    levels: usize,
     tokens: &[Token],
 ) -> Result<(TypeKind, &[Token]), Fault<'_>>
-    ensures { Gives result (reader.value_reader depth tokens.now) }
+    ensures { Gives result (reader.value_reader levels tokens.now) }
 {
     match tokens {
         [first, ..] => match value_form(&first.kind) {
-            Some(form) => of_form(form, depth, tokens),
+            Some(form) => of_form(form, levels, tokens),
             None => bits(alloc, tokens),
         },
         [] => Err(Fault::Unexpected(tokens)),
@@ -113,15 +111,15 @@ fn region(alloc: Global, tokens: &[Token]) -> Result<(RegionText, &[Token]), Fau
 
 fn reference(
     alloc: Global,
-    depth: usize,
+    levels: usize,
     tokens: &[Token],
 ) -> Result<(TypeKind, &[Token]), Fault<'_>>
-    ensures { Gives result (reader.reference_reader depth tokens.now) }
+    ensures { Gives result (reader.reference_reader levels tokens.now) }
 {
     let (constant, rest) = optional_keyword(Key::KwConst, tokens);
     let (_, rest) = keyword(Key::KwRef, rest)?;
     let (region, rest) = region(alloc, rest)?;
-    let (area, rest) = area_text(alloc, depth, rest)?;
+    let (area, rest) = area_text(alloc, levels, rest)?;
     let reference = RefText {
         constant: constant.is_some(),
         region,
@@ -140,19 +138,19 @@ fn starts_reference(tokens: &[Token]) -> bool
 ///
 /// # Errors
 ///
-/// The first token with which no type goes on, or the first that nests deeper than `depth` levels.
+/// The first token with which no type goes on, or the first that nests deeper than `levels` levels.
 #[tactic(auto, unfolding(module_grammar::specs::TypeReader::type_))]
 pub fn type_text(
     alloc: Global,
-    depth: usize,
+    levels: usize,
     tokens: &[Token],
 ) -> Result<(TypeText, &[Token]), Fault<'_>>
-    ensures { Gives result (reader.type_ depth tokens.now) }
+    ensures { Gives result (reader.type_ levels tokens.now) }
 {
     let (kind, rest) = if starts_reference(tokens) {
-        reference(alloc, depth, tokens)?
+        reference(alloc, levels, tokens)?
     } else {
-        value(alloc, depth, tokens)?
+        value(alloc, levels, tokens)?
     };
     let span = span_of(tokens, rest);
     Ok((TypeText { kind, span }, rest))

@@ -1,9 +1,0 @@
-use Rattle.std.proofs.Common.{rules, arith}
-use Rattle.reading.proofs.Turns.{turns_init, turns_after}
-use Rattle.ivory_parser.proofs.module.items.Goals as goal
-
-pub loop-turn-init : goal.loop-turn-init
-loop-turn-init c = turns_init _ _ _ _ _ (omega arith) c.new-items.ensures
-
-pub loop-turn-preserved : goal.loop-turn-preserved
-loop-turn-preserved c = turns_after c.in_ok-next.next _ _ _ c.loop-turn.invariant (omega arith) (search rules) c.in_ok-next.ensures c.in_ok-push.ensures.ok

@@ -1,5 +1,5 @@
 -- What an operator answers on a kind is a number of the kind.
-use Rattle.std.proofs.Common.{◌≡◌, ℕ, suc, ◌-◌, ◌/◌, ◌%◌, ◌^◌, ◌<◌, ℤ, pos, negsuc, ◌*ℤ◌, Bool, true, false, if◌then◌else◌, IsTrue, arith, refl, Result, Ok, Err, IfOk, inl, inr}
+use Rattle.std.proofs.Common.{◌≡◌, ℕ, suc, ◌/◌, ◌^◌, ◌<◌, ℤ, pos, negsuc, ◌*ℤ◌, Bool, true, false, if◌then◌else◌, IsTrue, arith, refl, Result, Ok, Err, IfOk, inl, inr}
 use Rattle.std.specs.Prelude.{int_div, int_rem, int_lt, bit_and, bit_or, bit_xor, unsigned_abs}
 use Rattle.std.specs.Ordering.{int_eq}
 use Rattle.std.proofs.lemmas.Int.{ints}

@@ -1,9 +1,8 @@
 -- Conversions keep what the type can hold, and give what it can hold.
-use Rattle.std.proofs.Common.{◌≡◌, ℕ, ◌-◌, ◌%◌, ◌^◌, ◌<◌, ℤ, pos, negsuc, Bool, true, false, IsTrue, arith, refl, ap, subst}
+use Rattle.std.proofs.Common.{◌≡◌, ℕ, ℤ, Bool, true, false, IsTrue, refl, ap, subst}
 use Rattle.std.specs.Prelude.{Some, None, is_none, not, ◌&&◌, if◌then◌else◌}
-use Rattle.std.proofs.lemmas.Int.{ints}
-use Rattle.std.proofs.lemmas.Nat.{pow_pos, mod_below}
-use Rattle.std.proofs.Math.Nat.{mod-eq_of_lt}
+use Rattle.iv_words.proofs.Modular.{modulo_in_range, modulo_of_held}
+use Rattle.iv_words.specs.Bits.{modulo}
 use Rattle.iv_words.specs.Kinds.{in_range_of, width, is_signed}
 use Rattle.c_ast.specs.declared.types.Target.{Target}
 use Rattle.c_ast.specs.declared.types.CScalar.TheVariants.{Truth, Int as Exact}
@@ -13,19 +12,9 @@ use Rattle.c_ast.specs.Targets.{table_of, arith_bits, arith_signed}
 use Rattle.c_ast.specs.Conversions.{converted, convert, is_lost}
 use Rattle.c_ast.specs.ConversionLaws.{HeldNumbersStay, ConvertedNumbersAreHeld}
 
-below : (bits n : ℕ) → IsTrue (in_range_of bits false (pos n)) → n < 2 ^ bits
-below bits n h = let p = pow_pos bits in grind (arith, ints)
-
-natural : (bits n : ℕ) → n < 2 ^ bits → IsTrue (in_range_of bits false (pos n))
-natural bits n h = let p = pow_pos bits in grind (arith, ints)
-
-not_below : (bits n : ℕ) → IsTrue (in_range_of bits false (negsuc n)) → ⊥
-not_below bits n h = grind (arith, ints)
-
 pub held_stays : (bits : ℕ) (signed : Bool) (v : ℤ) → IsTrue (in_range_of bits signed v) → converted bits signed v ≡ Some v
 held_stays bits true v h = ap (λ b. if b then Some v else None) h
-held_stays bits false (pos n) h = ap (λ k. Some (pos k)) (mod-eq_of_lt (below bits n h))
-held_stays bits false (negsuc n) h = absurd (not_below bits n h)
+held_stays bits false v h = ap Some (modulo_of_held bits v h)
 
 some_same : {A : Type 0} (P : A → Type 0) (a b : A) → P a → Some a ≡ Some b → P b
 some_same P a b h e = let q : a ≡ b = cc in subst P q h
@@ -36,11 +25,7 @@ kept bits v w false h e = cc
 
 pub converted_held : (bits : ℕ) (signed : Bool) (v w : ℤ) → converted bits signed v ≡ Some w → IsTrue (in_range_of bits signed w)
 converted_held bits true v w e = kept bits v w (in_range_of bits true v) refl e
-converted_held bits false (pos n) w e =
-    some_same (λ u. IsTrue (in_range_of bits false u)) (pos (n % 2 ^ bits)) w (natural bits (n % 2 ^ bits) (mod_below n (2 ^ bits) (pow_pos bits))) e
-converted_held bits false (negsuc n) w e =
-    let p = pow_pos bits in
-    some_same (λ u. IsTrue (in_range_of bits false u)) (pos (2 ^ bits - 1 - n % 2 ^ bits)) w (natural bits (2 ^ bits - 1 - n % 2 ^ bits) (omega arith)) e
+converted_held bits false v w e = some_same (λ u. IsTrue (in_range_of bits false u)) (modulo bits v) w (modulo_in_range bits v) e
 
 pub held_numbers_stay : HeldNumbersStay
 held_numbers_stay t kind v h = held_stays (width kind) (is_signed kind) v h

@@ -1,5 +1,5 @@
 -- A scalar has a byte, and a type an alignment.
-use Rattle.std.proofs.Common.{ℕ, ◌≤◌, arith}
+use Rattle.std.proofs.Common.{◌≤◌, arith}
 use Rattle.iv_words.proofs.Widths.{width_least}
 use Rattle.type_trees.proofs.Layouts.{align_some}
 use Rattle.c_ast.specs.declared.types.CScalar.{CScalar}

@@ -1,7 +1,7 @@
 -- The struct that is found for a name is the one that the name stands for.
-use Rattle.std.proofs.Common.{◌≡◌, ℕ, zero, suc, ◌+◌, ◌≤◌, ◌<◌, List, [], ◌∷◌, ◌++◌, length, take, drop, get_or, Option, Some, None, Bool, true, false, if◌then◌else◌, refl, sym, ◌∙◌, ap, subst, arith}
+use Rattle.std.proofs.Common.{◌≡◌, ℕ, zero, suc, ◌+◌, ◌<◌, List, [], ◌∷◌, ◌++◌, length, take, drop, get_or, Option, Some, None, Bool, true, false, if◌then◌else◌, refl, sym, ◌∙◌, ap, subst, arith}
 use Rattle.iv_words.specs.Words.{same_word}
-use Rattle.type_trees.specs.Trees.{Struct, Row, End, Field}
+use Rattle.type_trees.specs.Trees.{Struct, End}
 use Rattle.type_trees.specs.Layouts.{Metric, align, align_row, size, end_row}
 use Rattle.type_trees.specs.Multiples.{up}
 use Rattle.c_ast.specs.declared.types.CScalar.{CScalar}

@@ -65,7 +65,7 @@ fn plain_param(ty: &CType) -> Option<Plain>
 fn plain_params(alloc: Global, params: &[CParam]) -> Result<Option<Seq<Plain>>, Memory>
     ensures { IfOk result (λ ts. ts ≡ exports.plain_params params.now) }
 {
-    let mut plains = Seq::new(alloc);
+    let mut plains = Seq::with_capacity(alloc, params.len())?;
     for param in params {
         match plain_param(&param.ty) {
             Some(plain) => plains.push(plain)?,
@@ -91,11 +91,9 @@ fn outer_name(alloc: Global, name: &Word) -> Result<Word, Memory>
     ensures { IfOk result (λ w. w ≡ names.outer_name name.now) }
 {
     let bytes = name.as_slice();
-    let mut outer = Word::new(alloc);
     if bytes.starts_with(b"iv_") {
-        outer.extend_from_slice(&bytes[3..])?;
+        Word::from_slice(alloc, &bytes[3..])
     } else {
-        outer.extend_from_slice(bytes)?;
+        Word::from_slice(alloc, bytes)
     }
-    Ok(outer)
 }

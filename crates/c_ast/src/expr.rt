@@ -5,7 +5,7 @@ use iv_words::{Box, Copied, Memory, Seq, Word};
 use std::alloc::Global;
 
 /// The suffix of an integer constant: none, `u`, `ll` or `ull` (C99 6.4.4.1).
-#[derive(Clone, Copy, Drop, PartialEq, Eq)]
+#[derive(Clone, Copy, Drop)]
 pub enum Suffix {
     Plain,
     U,
@@ -14,7 +14,7 @@ pub enum Suffix {
 }
 
 /// A unary operator: `-`, `~` or `!` (C99 6.5.3.3).
-#[derive(Clone, Copy, Drop, PartialEq, Eq)]
+#[derive(Clone, Copy, Drop)]
 pub enum CUnary {
     Neg,
     Flip,
@@ -22,7 +22,7 @@ pub enum CUnary {
 }
 
 /// A binary operator (C99 6.5.5 to 6.5.14): `+ - * / % & | ^ << >> == != < <= > >= && ||`, in this order.
-#[derive(Clone, Copy, Drop, PartialEq, Eq)]
+#[derive(Clone, Copy, Drop)]
 pub enum CBinary {
     Add,
     Sub,
@@ -47,7 +47,7 @@ pub enum CBinary {
 /// An expression (C99 6.5): a decimal constant below 2^64, the value or the address of a place, an operator, a cast, or
 /// `a ? b : c`.
 #[cycle(tree)]
-#[derive(Drop, PartialEq, Eq)]
+#[derive(Drop)]
 pub enum CExpr {
     Number(u64, Suffix),
     Read(CPlace),
@@ -61,7 +61,7 @@ pub enum CExpr {
 /// A place (an lvalue, C99 6.3.2.1): a name, what a pointer points to, a member of a struct, or an element of an array
 /// that is a member.
 #[cycle(tree)]
-#[derive(Drop, PartialEq, Eq)]
+#[derive(Drop)]
 pub enum CPlace {
     Var(Word),
     At(Box<CExpr>),
@@ -71,7 +71,7 @@ pub enum CPlace {
 
 /// An initializer (C99 6.7.8): of a scalar, `{0}` of anything, or one for each element or member from the first on.
 #[cycle(init)]
-#[derive(Drop, PartialEq, Eq)]
+#[derive(Drop)]
 pub enum CInit {
     One(CExpr),
     Zero,
@@ -84,21 +84,22 @@ impl CExpr {
     pub fn copy(&self, alloc: Global) -> Result<CExpr, Memory>
         ensures { IfOk result (λ e. e ≡ self.now) }
     {
-        Ok(match self {
-            CExpr::Number(value, suffix) => CExpr::Number(*value, *suffix),
-            CExpr::Read(place) => CExpr::Read(place.copy(alloc)?),
-            CExpr::Address(place) => CExpr::Address(place.copy(alloc)?),
-            CExpr::Unary(op, e) => CExpr::Unary(*op, copied_expr(e, alloc)?),
+        match self {
+            CExpr::Number(value, suffix) => Ok(CExpr::Number(*value, *suffix)),
+            CExpr::Read(place) => Ok(CExpr::Read(place.copy(alloc)?)),
+            CExpr::Address(place) => Ok(CExpr::Address(place.copy(alloc)?)),
+            CExpr::Unary(op, e) => Ok(CExpr::Unary(*op, copied_expr(e, alloc)?)),
             CExpr::Binary(op, left, right) => {
-                CExpr::Binary(*op, copied_expr(left, alloc)?, copied_expr(right, alloc)?)
+                let left = copied_expr(left, alloc)?;
+                Ok(CExpr::Binary(*op, left, copied_expr(right, alloc)?))
             }
-            CExpr::Cast(ty, e) => CExpr::Cast(ty.copy(alloc)?, copied_expr(e, alloc)?),
-            CExpr::Cond(test, first, second) => CExpr::Cond(
-                copied_expr(test, alloc)?,
-                copied_expr(first, alloc)?,
-                copied_expr(second, alloc)?,
-            ),
-        })
+            CExpr::Cast(ty, e) => Ok(CExpr::Cast(ty.copy(alloc)?, copied_expr(e, alloc)?)),
+            CExpr::Cond(test, first, second) => {
+                let test = copied_expr(test, alloc)?;
+                let first = copied_expr(first, alloc)?;
+                Ok(CExpr::Cond(test, first, copied_expr(second, alloc)?))
+            }
+        }
     }
 }
 
@@ -108,16 +109,16 @@ impl CPlace {
     pub fn copy(&self, alloc: Global) -> Result<CPlace, Memory>
         ensures { IfOk result (λ p. p ≡ self.now) }
     {
-        Ok(match self {
-            CPlace::Var(name) => CPlace::Var(name.copy(alloc)?),
-            CPlace::At(pointer) => CPlace::At(copied_expr(pointer, alloc)?),
+        match self {
+            CPlace::Var(name) => Ok(CPlace::Var(name.copy(alloc)?)),
+            CPlace::At(pointer) => Ok(CPlace::At(copied_expr(pointer, alloc)?)),
             CPlace::Member(place, name) => {
-                CPlace::Member(copied_place(place, alloc)?, name.copy(alloc)?)
+                Ok(CPlace::Member(copied_place(place, alloc)?, name.copy(alloc)?))
             }
             CPlace::Element(place, index) => {
-                CPlace::Element(copied_place(place, alloc)?, copied_expr(index, alloc)?)
+                Ok(CPlace::Element(copied_place(place, alloc)?, copied_expr(index, alloc)?))
             }
-        })
+        }
     }
 }
 
@@ -135,39 +136,8 @@ fn copied_place(place: &Box<CPlace>, alloc: Global) -> Result<Box<CPlace>, Memor
     Box::new(alloc, place.get().copy(alloc)?)
 }
 
-impl CInit {
-    /// An initializer that equals this one.
-    #[cycle(init_copies)]
-    pub fn copy(&self, alloc: Global) -> Result<CInit, Memory>
-        ensures { IfOk result (λ i. i ≡ self.now) }
-    {
-        Ok(match self {
-            CInit::One(e) => CInit::One(e.copy(alloc)?),
-            CInit::Zero => CInit::Zero,
-            CInit::Many(inits) => CInit::Many(copied_inits(inits, alloc)?),
-        })
-    }
-}
-
-#[cycle(init_copies)]
-fn copied_inits(inits: &Seq<CInit>, alloc: Global) -> Result<Seq<CInit>, Memory>
-    ensures { IfOk result (λ c. c ≡ inits.now) }
-{
-    let mut items = Seq::new(alloc);
-    for init in inits.iter() {
-        items.push(init.copy(alloc)?)?;
-    }
-    Ok(items)
-}
-
 impl Copied for CExpr {
     fn copied(&self, alloc: Global) -> Result<CExpr, Memory> {
-        self.copy(alloc)
-    }
-}
-
-impl Copied for CInit {
-    fn copied(&self, alloc: Global) -> Result<CInit, Memory> {
         self.copy(alloc)
     }
 }

@@ -37,8 +37,8 @@ fn find(structs: &[CStruct], name: &Word) -> Option<usize>
     ensures place { result ≡ place_from 0 structs.now name.now }
     ensures within { IfSome result (λ k. k < length structs.now) }
 {
-    for (i, s) in structs.iter().enumerate() {
-        if s.name == *name {
+    for i in 0..structs.len() {
+        if structs[i].name == *name {
             return Some(i);
         }
     }

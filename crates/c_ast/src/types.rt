@@ -56,10 +56,10 @@ impl CBase {
     pub fn copy(&self, alloc: Global) -> Result<CBase, Memory>
         ensures { IfOk result (λ t. t ≡ self.now) }
     {
-        Ok(match self {
-            CBase::Scalar(scalar) => CBase::Scalar(*scalar),
-            CBase::Struct(name) => CBase::Struct(name.copy(alloc)?),
-        })
+        match self {
+            CBase::Scalar(scalar) => Ok(CBase::Scalar(*scalar)),
+            CBase::Struct(name) => Ok(CBase::Struct(name.copy(alloc)?)),
+        }
     }
 }
 
@@ -68,11 +68,11 @@ impl CType {
     pub fn copy(&self, alloc: Global) -> Result<CType, Memory>
         ensures { IfOk result (λ t. t ≡ self.now) }
     {
-        Ok(match self {
-            CType::Void => CType::Void,
-            CType::Value(scalar) => CType::Value(*scalar),
-            CType::Pointer(constant, base) => CType::Pointer(*constant, base.copy(alloc)?),
-        })
+        match self {
+            CType::Void => Ok(CType::Void),
+            CType::Value(scalar) => Ok(CType::Value(*scalar)),
+            CType::Pointer(constant, base) => Ok(CType::Pointer(*constant, base.copy(alloc)?)),
+        }
     }
 }
 

@@ -1,14 +1,15 @@
 -- What an operator answers on a kind is a number of the kind.
-use Rattle.std.proofs.Common.{◌≡◌, ℕ, suc, ◌-◌, ◌/◌, ◌%◌, ◌^◌, ◌<◌, ℤ, pos, negsuc, ◌*ℤ◌, Bool, true, false, if◌then◌else◌, IsTrue, arith, refl, Result, Ok, Err, IfOk, inl, inr}
+use Rattle.std.proofs.Common.{◌≡◌, ℕ, suc, ◌/◌, ◌^◌, ◌<◌, ℤ, pos, negsuc, ◌*ℤ◌, Bool, true, false, if◌then◌else◌, IsTrue, arith, refl, Result, Ok, Err, IfOk, inl, inr}
 use Rattle.std.specs.Prelude.{int_div, int_rem, int_lt, bit_and, bit_or, bit_xor, unsigned_abs}
 use Rattle.std.specs.Ordering.{int_eq}
 use Rattle.std.proofs.lemmas.Int.{ints}
-use Rattle.std.proofs.lemmas.Nat.{and_le_l, or_lt, xor_lt, pow_pos, mod_below, shr_le}
+use Rattle.std.proofs.lemmas.Nat.{and_le_l, or_lt, xor_lt, shr_le}
 use Rattle.std.proofs.Math.Nat.{mod-le}
 use Rattle.iv_words.specs.Kinds.{in_range_of, width, is_signed, in_range}
 use Rattle.iv_words.specs.declared.kind.IntKind.{IntKind}
 use Rattle.iv_words.specs.declared.kind.IntKind.TheVariants.{U8, U16, U32, U64, I8, I16, I32, I64}
-use Rattle.iv_words.specs.Bits.{modulo, two_to}
+use Rattle.iv_words.specs.Bits.{two_to}
+use Rattle.iv_words.proofs.Modular.{modulo_in_range}
 use Rattle.int_ops.specs.Operators.{IsKindWidth, truth, is_allowed_at, is_allowed, is_binary, exact_at, exact}
 use Rattle.int_ops.specs.declared.operator.Op.{Op}
 use Rattle.int_ops.specs.declared.operator.Op.TheVariants.{Add, Sub, Mul, Div, Rem, Shl, Shr, And, Or, Xor, Neg, Not, WrapAdd, WrapSub, WrapMul, Eq, Ne, Lt, Le, Gt, Ge}
@@ -36,10 +37,6 @@ natural bits n w h = grind (arith, ints)
 
 below : (bits n : ℕ) → IsKindWidth bits → IsTrue (in_range_of bits false (pos n)) → n < 2 ^ bits
 below bits n w h = grind (arith, ints)
-
-modulo_in_range : (bits : ℕ) (v : ℤ) → IsKindWidth bits → IsTrue (in_range_of bits false (modulo bits v))
-modulo_in_range bits (pos n) w = natural bits (n % 2 ^ bits) w (mod_below n (2 ^ bits) (pow_pos bits))
-modulo_in_range bits (negsuc n) w = let p = pow_pos bits in natural bits (2 ^ bits - 1 - n % 2 ^ bits) w (omega arith)
 
 truth_in_range : (bits : ℕ) (signed test : Bool) → IsKindWidth bits → IsTrue (in_range_of bits signed (truth test))
 truth_in_range bits true true w = grind (arith, ints)
@@ -75,10 +72,10 @@ exact_in_range Lt bits signed a b w u h k = truth_in_range bits signed _ w
 exact_in_range Le bits signed a b w u h k = truth_in_range bits signed _ w
 exact_in_range Gt bits signed a b w u h k = truth_in_range bits signed _ w
 exact_in_range Ge bits signed a b w u h k = truth_in_range bits signed _ w
-exact_in_range WrapAdd bits false a b w u h k = modulo_in_range bits _ w
-exact_in_range WrapSub bits false a b w u h k = modulo_in_range bits _ w
-exact_in_range WrapMul bits false a b w u h k = modulo_in_range bits _ w
-exact_in_range Shl bits false a b w u h k = if_in_range bits false (int_lt b (pos bits)) _ _ (λ e. modulo_in_range bits (a *ℤ two_to b) w)
+exact_in_range WrapAdd bits false a b w u h k = modulo_in_range bits _
+exact_in_range WrapSub bits false a b w u h k = modulo_in_range bits _
+exact_in_range WrapMul bits false a b w u h k = modulo_in_range bits _
+exact_in_range Shl bits false a b w u h k = if_in_range bits false (int_lt b (pos bits)) _ _ (λ e. modulo_in_range bits (a *ℤ two_to b))
 exact_in_range Shr bits false (pos a) b w u h k =
     let l = below bits a w h in let m = shr_le a (unsigned_abs b) in
     if_in_range bits false (int_lt b (pos bits)) _ _ (λ e. natural bits (a / 2 ^ unsigned_abs b) w (omega arith))

@@ -1,7 +1,7 @@
 -- What each operator on whole numbers answers: one definition for all kinds, over the width in bits, the sign, and numbers
 -- without a bound. The arithmetic is that of C99 6.5.3.3 and 6.5.5 to 6.5.12, but a number that the kind does not have stops
 -- the signed and the unsigned kinds alike, and so do a quotient by 0 and a shift by the width, which C99 leaves undefined.
-use Rattle.std.specs.Prelude.{ℕ, ◌^◌, ◌≡◌, ◌⊎◌, ℤ, pos, ◌+ℤ◌, ◌-ℤ◌, ◌*ℤ◌, neg_ℤ, unsigned_abs, int_le, int_lt, int_div, bit_and, bit_or, bit_xor, Bool, true, false, not, if◌then◌else◌, Result, Ok, Err}
+use Rattle.std.specs.Prelude.{ℕ, ◌≡◌, ◌⊎◌, ℤ, pos, ◌+ℤ◌, ◌-ℤ◌, ◌*ℤ◌, neg_ℤ, unsigned_abs, int_le, int_lt, int_div, bit_and, bit_or, bit_xor, Bool, true, false, not, if◌then◌else◌, Result, Ok, Err}
 use Rattle.std.specs.Int.{int_div_euclid}
 use Rattle.std.specs.Ordering.{int_eq}
 use Rattle.iv_words.specs.Bits.{modulo, two_to}

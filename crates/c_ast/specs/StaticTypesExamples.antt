@@ -36,9 +36,12 @@ point = base.Struct (codes "iv_P")
 -- `struct iv_P { uint8_t iv_x; uint16_t iv_row[4]; };`
 abbrev pub structs : List CStruct
 structs =
-    record { name = codes "iv_P"; members =
-    record { name = codes "iv_x"; base = base.Scalar (Exact U8); length = None } ∷
-    record { name = codes "iv_row"; base = base.Scalar (Exact U16); length = Some 4 } ∷ [] } ∷ []
+    record {
+      name = codes "iv_P";
+      members =
+          record { name = codes "iv_x"; base = base.Scalar (Exact U8); length = None } ∷
+          record { name = codes "iv_row"; base = base.Scalar (Exact U16); length = Some 4 } ∷ [];
+    } ∷ []
 
 -- the const names `uint8_t n`, `struct iv_P *p` and `struct iv_P const *q`, and the objects `struct iv_P s` and `uint32_t const c`
 abbrev pub scope : Scope

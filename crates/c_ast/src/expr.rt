@@ -5,7 +5,7 @@ use iv_words::{Box, Copied, Memory, Seq, Word};
 use std::alloc::Global;
 
 /// The suffix of an integer constant: none, `u`, `ll` or `ull` (C99 6.4.4.1).
-#[derive(Clone, Copy, Drop)]
+#[derive(Clone, Copy, Drop, PartialEq, Eq)]
 pub enum Suffix {
     Plain,
     U,
@@ -14,7 +14,7 @@ pub enum Suffix {
 }
 
 /// A unary operator: `-`, `~` or `!` (C99 6.5.3.3).
-#[derive(Clone, Copy, Drop)]
+#[derive(Clone, Copy, Drop, PartialEq, Eq)]
 pub enum CUnary {
     Neg,
     Flip,
@@ -22,7 +22,7 @@ pub enum CUnary {
 }
 
 /// A binary operator (C99 6.5.5 to 6.5.14): `+ - * / % & | ^ << >> == != < <= > >= && ||`, in this order.
-#[derive(Clone, Copy, Drop)]
+#[derive(Clone, Copy, Drop, PartialEq, Eq)]
 pub enum CBinary {
     Add,
     Sub,
@@ -47,7 +47,7 @@ pub enum CBinary {
 /// An expression (C99 6.5): a decimal constant below 2^64, the value or the address of a place, an operator, a cast, or
 /// `a ? b : c`.
 #[cycle(tree)]
-#[derive(Drop)]
+#[derive(PartialEq, Eq)]
 pub enum CExpr {
     Number(u64, Suffix),
     Read(CPlace),
@@ -61,7 +61,7 @@ pub enum CExpr {
 /// A place (an lvalue, C99 6.3.2.1): a name, what a pointer points to, a member of a struct, or an element of an array
 /// that is a member.
 #[cycle(tree)]
-#[derive(Drop)]
+#[derive(PartialEq, Eq)]
 pub enum CPlace {
     Var(Word),
     At(Box<CExpr>),
@@ -71,7 +71,7 @@ pub enum CPlace {
 
 /// An initializer (C99 6.7.8): of a scalar, `{0}` of anything, or one for each element or member from the first on.
 #[cycle(init)]
-#[derive(Drop)]
+#[derive(PartialEq, Eq)]
 pub enum CInit {
     One(CExpr),
     Zero,
@@ -136,8 +136,70 @@ fn copied_place(place: &Box<CPlace>, alloc: Global) -> Result<Box<CPlace>, Memor
     Box::new(alloc, place.get().copy(alloc)?)
 }
 
+impl CInit {
+    /// An initializer that equals this one.
+    #[cycle(init_copies)]
+    pub fn copy(&self, alloc: Global) -> Result<CInit, Memory>
+        ensures { IfOk result (λ i. i ≡ self.now) }
+    {
+        match self {
+            CInit::One(e) => Ok(CInit::One(e.copy(alloc)?)),
+            CInit::Zero => Ok(CInit::Zero),
+            CInit::Many(inits) => Ok(CInit::Many(copied_inits(inits, alloc)?)),
+        }
+    }
+}
+
+#[cycle(init_copies)]
+fn copied_inits(inits: &Seq<CInit>, alloc: Global) -> Result<Seq<CInit>, Memory>
+    ensures { IfOk result (λ c. c ≡ inits.now) }
+{
+    let mut items = Seq::with_capacity(alloc, inits.len())?;
+    for init in inits.iter() {
+        items.push(init.copy(alloc)?)?;
+    }
+    Ok(items)
+}
+
 impl Copied for CExpr {
     fn copied(&self, alloc: Global) -> Result<CExpr, Memory> {
         self.copy(alloc)
+    }
+}
+
+impl Copied for CInit {
+    fn copied(&self, alloc: Global) -> Result<CInit, Memory> {
+        self.copy(alloc)
+    }
+}
+
+// Each tree is dropped by a function of this crate: one that is derived would be proved again in each crate that drops a tree.
+
+impl Drop for CExpr {
+    #[cycle(drops)]
+    fn drop(self) {
+        match self {
+            CExpr::Number(_, _) | CExpr::Read(_) | CExpr::Address(_) => {}
+            CExpr::Unary(_, _) | CExpr::Binary(_, _, _) | CExpr::Cast(_, _) => {}
+            CExpr::Cond(_, _, _) => {}
+        }
+    }
+}
+
+impl Drop for CPlace {
+    #[cycle(drops)]
+    fn drop(self) {
+        match self {
+            CPlace::Var(_) | CPlace::At(_) => {}
+            CPlace::Member(_, _) | CPlace::Element(_, _) => {}
+        }
+    }
+}
+
+impl Drop for CInit {
+    fn drop(self) {
+        match self {
+            CInit::One(_) | CInit::Zero | CInit::Many(_) => {}
+        }
     }
 }

@@ -152,6 +152,14 @@ fn number_in(e: &CExpr) -> Option<u64> {
 }
 
 #[test]
+fn copies_a_unit(rt: HostRuntime) -> Result<(), Memory> {
+    let alloc = rt.alloc();
+    let made = unit(alloc)?;
+    assert!(rt; made.copy(alloc)? == made);
+    Ok(())
+}
+
+#[test]
 fn copies_an_expression(rt: HostRuntime) -> Result<(), Memory> {
     let alloc = rt.alloc();
     for number in [5, 6] {

@@ -1,9 +1,9 @@
 -- A name that holds a value has the value's type, and evaluates to it.
-use Rattle.std.proofs.Common.{◌≡◌, Bool, true, false, List, [], ◌∷◌, map, Option, Some, None, Result, Ok, refl, ap, ◌∙◌}
+use Rattle.std.proofs.Common.{◌≡◌, Bool, true, false, List, [], ◌∷◌, map, Option, Some, Ok, ap}
 use Rattle.std.specs.Prelude.{◌++◌, if◌then◌else◌}
 use Rattle.std.specs.Option.{option_map, option_and_then}
 use Rattle.iv_words.specs.Words.{same_word}
-use Rattle.c_ast.specs.StaticTypes.{ValueType, Entity, ConstName, declared, of_entity, of_read}
+use Rattle.c_ast.specs.StaticTypes.{Entity, ConstName, declared, of_entity, of_read}
 use Rattle.c_ast.specs.Syntax.{Name, Read, Var}
 use Rattle.c_meaning.specs.Values.{CValue, held_type}
 use Rattle.c_meaning.specs.State.{Program, CState}

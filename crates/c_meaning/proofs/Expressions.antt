@@ -6,7 +6,6 @@ use Rattle.std.specs.Option.{option_map, option_and_then}
 use Rattle.std.proofs.lemmas.List.Elements.{All-head, All-tail}
 use Rattle.iv_words.specs.Words.{same_word}
 use Rattle.iv_words.specs.Kinds.{width, is_signed}
-use Rattle.iv_script.specs.declared.Reason.{Reason}
 use Rattle.c_ast.specs.declared.Target.{Target}
 use Rattle.c_ast.specs.declared.Arith.{Arith}
 use Rattle.c_ast.specs.declared.CScalar.{CScalar}
@@ -14,7 +13,6 @@ use Rattle.c_ast.specs.declared.CScalar.TheVariants.{Truth, Int as Exact}
 use Rattle.c_ast.specs.declared.CKind.{CKind}
 use Rattle.c_ast.specs.declared.CKind.TheVariants.{Scalar, Arith as Computed}
 use Rattle.c_ast.specs.declared.CStruct.{CStruct}
-use Rattle.c_ast.specs.declared.CType.{CType}
 use Rattle.c_ast.specs.declared.CType.TheVariants.{Void, Value, Pointer}
 use Rattle.c_ast.specs.Syntax.{Name, Expr, Number, Read, Address, Unary, Binary, Cast, Cond, Var, At, Member, Element}
 use Rattle.c_ast.specs.StaticTypes.{ValueType, Arithmetic, PointerTo, Entity, ConstName, declared, of_unary, of_binary, of_choice, of_cast, of_entity, of_read, of_both}
@@ -28,7 +26,7 @@ use Rattle.c_meaning.specs.State.{Program, CState}
 use Rattle.c_meaning.specs.Scopes.{named, value_entity, local_entity, file_entity}
 use Rattle.c_meaning.specs.Expressions.{static_type, held, as_common, eval}
 use Rattle.c_meaning.specs.ExpressionLaws.{IsTyped, NamesAreTyped, HasItsType, ValuesHaveTheirTypes, IsOfNumbers, HasNoObjects, TypedNumbersAreNotStuck}
-use Rattle.c_meaning.proofs.Operands.{Is, Fine, Comes, some_is, fine_comes, on_ok_comes, unary_comes, binary_comes}
+use Rattle.c_meaning.proofs.Operands.{Fine, Comes, some_is, fine_comes, on_ok_comes, unary_comes, binary_comes}
 
 -- ---- conversions
 

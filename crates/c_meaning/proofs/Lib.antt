@@ -5,3 +5,4 @@ pub mod Bits
 pub mod HeldNumbers
 pub mod Expressions
 pub mod Stuck
+pub mod Names

@@ -1,23 +1,20 @@
 -- Units of the forms that have a meaning are never stuck, where they keep the rules of names and types.
-use Rattle.std.proofs.Common.{◌≡◌, ◌≢◌, ℕ, ℤ, pos, ◌<◌, ◌^◌, Bool, true, false, IsTrue, List, [], ◌∷◌, map, Option, Some, None, Result, Ok, Err, arith, refl, sym, subst, ap, ◌∙◌}
-use Rattle.std.specs.Prelude.{⊤, All, ◌++◌, ◌&&◌, not, if◌then◌else◌, int_le, unsigned_abs}
-use Rattle.std.specs.Option.{option_map, option_and_then}
+use Rattle.std.proofs.Common.{◌≡◌, ◌≢◌, ℕ, ℤ, ◌<◌, ◌^◌, Bool, true, false, IsTrue, List, [], ◌∷◌, map, Option, Some, None, Result, Ok, Err, arith, refl, sym, subst, ap, ◌∙◌}
+use Rattle.std.specs.Prelude.{⊤, All, ◌++◌, ◌&&◌, not, if◌then◌else◌, unsigned_abs}
+use Rattle.std.specs.Option.{option_map}
 use Rattle.std.specs.List.{find}
 use Rattle.std.proofs.lemmas.Int.{ints}
 use Rattle.std.proofs.lemmas.List.{append-nil}
 use Rattle.std.proofs.lemmas.List.Elements.{All-head, All-tail, All-nil, All-cons}
 use Rattle.iv_words.specs.Words.{same_word}
-use Rattle.iv_words.specs.Kinds.{in_range, in_range_of}
+use Rattle.iv_words.specs.Kinds.{in_range}
 use Rattle.iv_words.specs.declared.IntKind.TheVariants.{U32}
 use Rattle.iv_script.specs.declared.End.TheVariants.{Stopped}
-use Rattle.iv_script.specs.declared.EntryCall.{EntryCall}
-use Rattle.iv_script.specs.declared.Piece.{Piece}
 use Rattle.iv_script.specs.declared.Plain.{Plain}
 use Rattle.iv_script.specs.declared.Script.{Script}
 use Rattle.iv_script.specs.Scripts.{plain_fits, values_fit, export_of, found_fits, Fits}
-use Rattle.step_semantics.specs.Steps.{World, Halt, FailedCheck, Part, give, tick, block}
+use Rattle.step_semantics.specs.Steps.{World, FailedCheck, Part, give, tick, block}
 use Rattle.step_semantics.specs.Control.{Control, Falls, Broke, Returned}
-use Rattle.step_semantics.specs.Bodies.{CallFits}
 use Rattle.step_semantics.specs.Safe.{Keeps}
 use Rattle.step_semantics.proofs.Keeping.{Given, keeps_weaker, keeps_after, keeps_tick, keeps_left, keeps_also, keeps_forever, keeps_choice, keeps_import_call, keeps_run}
 use Rattle.c_ast.specs.declared.CScalar.{CScalar}
@@ -30,9 +27,9 @@ use Rattle.c_ast.specs.declared.CExtern.{CExtern}
 use Rattle.c_ast.specs.declared.CParam.{CParam}
 use Rattle.c_ast.specs.declared.Target.{Target}
 use Rattle.c_ast.specs.Conversions.{can_hold}
-use Rattle.c_ast.specs.Exports.{plain_of, plain_param, plain_params, plain_result, export_as, exports_by, exports_among, c_exports}
+use Rattle.c_ast.specs.Exports.{plain_of, plain_params, plain_result, export_as, exports_by, exports_among, c_exports}
 use Rattle.c_ast.specs.Names.{outer_name, stop_name}
-use Rattle.c_ast.specs.StaticTypes.{ValueType, Arithmetic, PointerTo, ConstName, declared, expr_type}
+use Rattle.c_ast.specs.StaticTypes.{ValueType, Arithmetic, ConstName, declared, expr_type}
 use Rattle.c_ast.specs.Syntax.{Name, Expr, FunctionCall, Stmt, Const, ConstCall, Object, Assign, If, IfElse, Forever, Break, Return, Block, Call, Stmts, Nil, Cons, FileObject, Function, TranslationUnit}
 use Rattle.c_ast.specs.Targets.{TargetTable, table_of}
 use Rattle.c_meaning.specs.Values.{Trouble, Undefined, Stuck, CValue, Num, Ptr, held_type, is_true, on_ok, as_kind, as_assigned, as_arguments}
@@ -44,8 +41,8 @@ use Rattle.c_meaning.specs.Calls.{given, Calls, no_functions, pieces_of, reply_s
 use Rattle.c_meaning.specs.Statements.{with_value, call_step, used, declaration, exec, exec_all}
 use Rattle.c_meaning.specs.Runs.{function_value, param_types, bound, function_body, function_call, with_function, entry_result, entry_values, entered, entry_among, entry, first_state_of, run_from}
 use Rattle.c_meaning.specs.Meant.{IsScalar, IsResult, Declarations, and_name, behind, of_params, Signature, stop_signature, extern_signature, function_signature, earlier_signature, or_earlier, signature_of, IsNumber, AreGiven, IsCall, IsMeant, AreMeant, FunctionIsMeant, FunctionsAreMeant, ExternIsMeant, UnitIsMeant}
-use Rattle.c_meaning.specs.Laws.{no_site, watched, NeverStuck, MeantUnitsAreNeverStuck}
-use Rattle.c_meaning.proofs.Operands.{Is, Fine, Comes}
+use Rattle.c_meaning.specs.Laws.{no_site, watched, IsNotStuck, MeantUnitsAreNeverStuck}
+use Rattle.c_meaning.proofs.Operands.{Fine, Comes}
 use Rattle.c_meaning.proofs.Expressions.{as_kind_fine, typed_comes}
 
 -- ---- results that are not stuck
@@ -64,10 +61,6 @@ and_both : (a b : Bool) → IsTrue (a && b) → IsTrue a × IsTrue b
 and_both true b h = (refl, h)
 and_both false b h = let no : ⊥ = cc in absurd no
 
--- no halt of a run that is not stuck
-abbrev Allowed : Halt → Type 0
-Allowed how = how ≢ FailedCheck no_site
-
 -- the frames are as they were
 record Same (s u : CState) : Type 0 where
   frame : u.frame ≡ s.frame
@@ -80,8 +73,8 @@ module _ (u : TranslationUnit) (target : Target) where
   abbrev t : TargetTable
   t = table_of target
 
-  good_given : {A B : Type 0} (P : A → Type 0) (post : B → CState → Type 0) (r : Result A Trouble) (next : A → Part CState B) (n : ℕ) (w : World) (s : CState) → Good P r → ((a : A) → P a → Keeps Allowed post (next a n w s))
-      → Keeps Allowed post (given p r next n w s)
+  good_given : {A B : Type 0} (P : A → Type 0) (post : B → CState → Type 0) (r : Result A Trouble) (next : A → Part CState B) (n : ℕ) (w : World) (s : CState) → Good P r → ((a : A) → P a → Keeps IsNotStuck post (next a n w s))
+      → Keeps IsNotStuck post (given p r next n w s)
   good_given P post (Ok a) next n w s h f = f a h
   good_given P post (Err (Undefined reason)) next n w s h f = λ e. cc
   good_given P post (Err Stuck) next n w s h f = absurd h
@@ -169,15 +162,15 @@ module _ (u : TranslationUnit) (target : Target) where
   reply_good (Value s) is (v ∷ vs) fits = (plain_held s v (and_both (plain_fits (plain_of s) v) (values_fit [] vs) fits).0, refl)
   reply_good (Pointer constant base) is reply fits = absurd is
 
-  outside_keeps : (x : CExtern) → IsResult x.result → (args : List CValue) → AreHeld x.params args → (n : ℕ) (w : World) (s : CState) → Keeps Allowed (CallPost x.result s) (outside p x args n w s)
+  outside_keeps : (x : CExtern) → IsResult x.result → (args : List CValue) → AreHeld x.params args → (n : ℕ) (w : World) (s : CState) → Keeps IsNotStuck (CallPost x.result s) (outside p x args n w s)
   outside_keeps x is args held n w s =
       good_given (λ pieces. ⊤) (CallPost x.result s) (pieces_of args) (outside_with p x) n w s (pieces_good x.params args held)
-      (λ pieces z. keeps_after Allowed (Given s (reply_shape x.result)) (CallPost x.result s) _ (λ reply. given p (reply_value x.result reply) give)
-      (keeps_import_call Allowed (seen p) (λ e. cc) (λ e. cc) s (outer_name x.name) pieces (reply_shape x.result) n w)
+      (λ pieces z. keeps_after IsNotStuck (Given s (reply_shape x.result)) (CallPost x.result s) _ (λ reply. given p (reply_value x.result reply) give)
+      (keeps_import_call IsNotStuck (seen p) (λ e. cc) (λ e. cc) s (outer_name x.name) pieces (reply_shape x.result) n w)
       (λ reply v replied m later. good_given (Gives x.result) (CallPost x.result s) (reply_value x.result reply) give m later v (reply_good x.result is reply replied.fits)
       (λ value gives. (gives, record { frame = ap (λ y. y.frame) replied.same; callers = ap (λ y. y.callers) replied.same }))))
 
-  extern_keeps : (x : CExtern) (result : CType) → IsResult result → IsResult x.result → (values : List CValue) → AreNumbers x.params values → (n : ℕ) (w : World) (s : CState) → Keeps Allowed (CallPost x.result s) (extern_call_of p x result values n w s)
+  extern_keeps : (x : CExtern) (result : CType) → IsResult result → IsResult x.result → (values : List CValue) → AreNumbers x.params values → (n : ℕ) (w : World) (s : CState) → Keeps IsNotStuck (CallPost x.result s) (extern_call_of p x result values n w s)
   extern_keeps x Void h is values numbers n w s = good_given (AreHeld x.params) (CallPost x.result s) (as_arguments target x.params values) (outside p x) n w s (arguments_good x.params values numbers) (λ args held. outside_keeps x is args held n w s)
   extern_keeps x (Value y) h is values numbers n w s = good_given (AreHeld x.params) (CallPost x.result s) (as_arguments target x.params values) (outside p x) n w s (arguments_good x.params values numbers) (λ args held. outside_keeps x is args held n w s)
   extern_keeps x (Pointer constant base) h is values numbers n w s = absurd h
@@ -189,16 +182,16 @@ module _ (u : TranslationUnit) (target : Target) where
   site_below : (site : ℤ) → IsTrue (in_range U32 site) → unsigned_abs site < 2 ^ 32
   site_below site h = grind (arith, ints)
 
-  other_site : (m : ℕ) → m < 2 ^ 32 → Allowed (FailedCheck m)
+  other_site : (m : ℕ) → m < 2 ^ 32 → IsNotStuck (FailedCheck m)
   other_site m l = λ e. let is : m ≡ 2 ^ 32 = cc in omega (arith, l, is)
 
-  stop_at_keeps : (args : List CValue) → AreHeld (Value (Int U32) ∷ []) args → (n : ℕ) (w : World) (s : CState) → Keeps Allowed (CallPost Void s) (stop_at p args n w s)
+  stop_at_keeps : (args : List CValue) → AreHeld (Value (Int U32) ∷ []) args → (n : ℕ) (w : World) (s : CState) → Keeps IsNotStuck (CallPost Void s) (stop_at p args n w s)
   stop_at_keeps [] held n w s = absurd held
   stop_at_keeps (Num k site ∷ []) held n w s = other_site (unsigned_abs site) (site_below site (is_u32 k site held.0.0 held.0.1))
   stop_at_keeps (Ptr constant base to ∷ []) held n w s = absurd held.0.0
   stop_at_keeps (v ∷ x ∷ vs) held n w s = absurd held.1
 
-  stop_keeps : (values : List CValue) → AreNumbers (Value (Int U32) ∷ []) values → (n : ℕ) (w : World) (s : CState) → Keeps Allowed (CallPost Void s) (stop_call p values n w s)
+  stop_keeps : (values : List CValue) → AreNumbers (Value (Int U32) ∷ []) values → (n : ℕ) (w : World) (s : CState) → Keeps IsNotStuck (CallPost Void s) (stop_call p values n w s)
   stop_keeps values numbers n w s =
       good_given (AreHeld (Value (Int U32) ∷ [])) (CallPost Void s) (as_arguments target (Value (Int U32) ∷ []) values) (stop_at p) n w s (arguments_good (Value (Int U32) ∷ []) values numbers) (λ args held. stop_at_keeps args held n w s)
 
@@ -206,7 +199,7 @@ module _ (u : TranslationUnit) (target : Target) where
 
   abbrev CallsKeep : List Function → Calls → Type 0
   CallsKeep earlier functions =
-      (name : Name) (called : Signature) → earlier_signature earlier name ≡ Some called → (values : List CValue) → AreNumbers called.params values → (n : ℕ) (w : World) (s : CState) → Keeps Allowed (CallPost called.result s) (functions name values n w s)
+      (name : Name) (called : Signature) → earlier_signature earlier name ≡ Some called → (values : List CValue) → AreNumbers called.params values → (n : ℕ) (w : World) (s : CState) → Keeps IsNotStuck (CallPost called.result s) (functions name values n w s)
 
   some_same : (a b : Signature) → (let r : Option Signature = Some a in r) ≡ Some b → a ≡ b
   some_same a b e = cc
@@ -220,22 +213,22 @@ module _ (u : TranslationUnit) (target : Target) where
   find_meant name (y ∷ ys) h x e = this_or_meant y x (find (λ z. same_word z.name name) ys) (All-head ExternIsMeant y ys h) (find_meant name ys (All-tail ExternIsMeant y ys h) x) (same_word y.name name) e
 
   module _ (externs : All ExternIsMeant u.externs) (earlier : List Function) (functions : Calls) (keep : CallsKeep earlier functions) (name : Name) (called : Signature) (values : List CValue) (numbers : AreNumbers called.params values) (n : ℕ) (w : World) (s : CState) where
-    found_keeps : (found : Option CExtern) → find (λ x. same_word x.name name) u.externs ≡ found → or_earlier earlier name found ≡ Some called → Keeps Allowed (CallPost called.result s) (call_found p functions name values found n w s)
+    found_keeps : (found : Option CExtern) → find (λ x. same_word x.name name) u.externs ≡ found → or_earlier earlier name found ≡ Some called → Keeps IsNotStuck (CallPost called.result s) (call_found p functions name values found n w s)
     found_keeps None e is = keep name called is values numbers n w s
     found_keeps (Some x) e is =
         let meant = find_meant name u.externs externs x e in
         let same = some_same (extern_signature x) called is in
-        subst (λ r. Keeps Allowed (CallPost r s) (call_found p functions name values (Some x) n w s)) (ap (λ c. c.result) same)
+        subst (λ r. Keeps IsNotStuck (CallPost r s) (call_found p functions name values (Some x) n w s)) (ap (λ c. c.result) same)
         (extern_keeps x x.result meant.result meant.result values (subst (λ ts. AreNumbers ts values) (sym (ap (λ c. c.params) same)) numbers) n w s)
 
     call_by : (test : Bool) → (if test then Some stop_signature else or_earlier earlier name (find (λ x. same_word x.name name) u.externs)) ≡ Some called
-        → Keeps Allowed (CallPost called.result s) ((if test then stop_call p values else call_found p functions name values (find (λ x. same_word x.name name) u.externs)) n w s)
+        → Keeps IsNotStuck (CallPost called.result s) ((if test then stop_call p values else call_found p functions name values (find (λ x. same_word x.name name) u.externs)) n w s)
     call_by true is =
         let same = some_same stop_signature called is in
-        subst (λ r. Keeps Allowed (CallPost r s) (stop_call p values n w s)) (ap (λ c. c.result) same) (stop_keeps values (subst (λ ts. AreNumbers ts values) (sym (ap (λ c. c.params) same)) numbers) n w s)
+        subst (λ r. Keeps IsNotStuck (CallPost r s) (stop_call p values n w s)) (ap (λ c. c.result) same) (stop_keeps values (subst (λ ts. AreNumbers ts values) (sym (ap (λ c. c.params) same)) numbers) n w s)
     call_by false is = found_keeps (find (λ x. same_word x.name name) u.externs) refl is
 
-    call_keeps : signature_of u earlier name ≡ Some called → Keeps Allowed (CallPost called.result s) (call p functions name values n w s)
+    call_keeps : signature_of u earlier name ≡ Some called → Keeps IsNotStuck (CallPost called.result s) (call p functions name values n w s)
     call_keeps is = call_by (same_word name stop_name) is
 
   -- ---- states within a function
@@ -320,9 +313,9 @@ module _ (u : TranslationUnit) (target : Target) where
     ends_left scope in_loop s inv (Returned value) v h = (h.0, restored scope s v inv h.1)
 
     with_value_keeps : {A : Type 0} (post : A → CState → Type 0) (scope : Declarations) (e : Expr) → IsNumber u target earlier result scope e → (next : CValue → Part CState A) (n : ℕ) (w : World) (s : CState) → Within scope callers s
-        → ((v : CValue) → Typed v → (m : ℕ) → Keeps Allowed post (next v m w s)) → Keeps Allowed post (with_value p e next n w s)
+        → ((v : CValue) → Typed v → (m : ℕ) → Keeps IsNotStuck post (next v m w s)) → Keeps IsNotStuck post (with_value p e next n w s)
     with_value_keeps post scope e number next n w s inv f =
-        good_given Typed post (eval p e s) (λ v. tick (next v)) n w s (number_good scope e number s inv) (λ v typed. keeps_tick Allowed post (next v) n w s (λ m. f v typed m))
+        good_given Typed post (eval p e s) (λ v. tick (next v)) n w s (number_good scope e number s inv) (λ v typed. keeps_tick IsNotStuck post (next v) n w s (λ m. f v typed m))
 
     named_within : (x : Name) (y : CScalar) (a : CValue) → Holds (Value y) a → (scope : Declarations) (s : CState) → Within scope callers s → Within ((x, ConstName (Arithmetic (Scalar y))) ∷ scope) callers (declare x a s)
     named_within x y a holds scope s inv = record {
@@ -332,62 +325,62 @@ module _ (u : TranslationUnit) (target : Target) where
       waiting = inv.waiting;
     }
 
-    declaration_keeps : (x : Name) (ty : CType) → IsScalar ty → (v : CValue) → Typed v → (scope : Declarations) (in_loop : Bool) (n : ℕ) (w : World) (s : CState) → Within scope callers s → Keeps Allowed (After (and_name x ty scope) in_loop) (declaration p x ty v n w s)
+    declaration_keeps : (x : Name) (ty : CType) → IsScalar ty → (v : CValue) → Typed v → (scope : Declarations) (in_loop : Bool) (n : ℕ) (w : World) (s : CState) → Within scope callers s → Keeps IsNotStuck (After (and_name x ty scope) in_loop) (declaration p x ty v n w s)
     declaration_keeps x (Value y) scalar v typed scope in_loop n w s inv =
         good_given (Holds (Value y)) (After (and_name x (Value y) scope) in_loop) (as_assigned target (Value y) v) _ n w s (assigned_good (Value y) scalar v typed) (λ a holds. named_within x y a holds scope s inv)
     declaration_keeps x Void scalar v typed scope in_loop n w s inv = absurd scalar
     declaration_keeps x (Pointer constant base) scalar v typed scope in_loop n w s inv = absurd scalar
 
-    call_step_keeps : (scope : Declarations) (c : FunctionCall) (is : IsCall u target earlier result scope c) (n : ℕ) (w : World) (s : CState) → Within scope callers s → Keeps Allowed (CallPost is.called.result s) (call_step p functions c n w s)
+    call_step_keeps : (scope : Declarations) (c : FunctionCall) (is : IsCall u target earlier result scope c) (n : ℕ) (w : World) (s : CState) → Within scope callers s → Keeps IsNotStuck (CallPost is.called.result s) (call_step p functions c n w s)
     call_step_keeps scope c is n w s inv =
         good_given (AreNumbers is.called.params) (CallPost is.called.result s) (eval_all p c.args s) (λ values. tick (call p functions c.name values)) n w s (numbers_good scope is.called.params c.args is.args s inv)
-        (λ values numbers. keeps_tick Allowed (CallPost is.called.result s) (call p functions c.name values) n w s (λ m. call_keeps externs earlier functions keep c.name is.called values numbers m w s is.found))
+        (λ values numbers. keeps_tick IsNotStuck (CallPost is.called.result s) (call p functions c.name values) n w s (λ m. call_keeps externs earlier functions keep c.name is.called values numbers m w s is.found))
 
     used_keeps : (x : Name) (ty : CType) → IsScalar ty → (given_type : CType) (value : Option CValue) → Gives given_type value → (scope : Declarations) (in_loop : Bool) (n : ℕ) (w : World) (s : CState) → Within scope callers s
-        → Keeps Allowed (After (and_name x ty scope) in_loop) (used p value (declaration p x ty) n w s)
+        → Keeps IsNotStuck (After (and_name x ty scope) in_loop) (used p value (declaration p x ty) n w s)
     used_keeps x ty scalar given_type None gives scope in_loop n w s inv = λ e. cc
     used_keeps x ty scalar given_type (Some v) gives scope in_loop n w s inv = declaration_keeps x ty scalar v (holds_typed given_type v gives) scope in_loop n w s inv
 
-    left_of : (part : Part CState (Control (Option CValue))) (scope : Declarations) (in_loop : Bool) (n : ℕ) (w : World) (s : CState) → Within scope callers s → Keeps Allowed (Ends in_loop) (part n w s) → Keeps Allowed (Left scope in_loop) (block leave part n w s)
-    left_of part scope in_loop n w s inv h = keeps_left Allowed (Ends in_loop) (Left scope in_loop) leave s (part n w s) (ends_left scope in_loop s inv) h
+    left_of : (part : Part CState (Control (Option CValue))) (scope : Declarations) (in_loop : Bool) (n : ℕ) (w : World) (s : CState) → Within scope callers s → Keeps IsNotStuck (Ends in_loop) (part n w s) → Keeps IsNotStuck (Left scope in_loop) (block leave part n w s)
+    left_of part scope in_loop n w s inv h = keeps_left IsNotStuck (Ends in_loop) (Left scope in_loop) leave s (part n w s) (ends_left scope in_loop s inv) h
 
-    block_of : (part : Part CState (Control (Option CValue))) (scope : Declarations) (in_loop : Bool) (n : ℕ) (w : World) (s : CState) → Within scope callers s → Keeps Allowed (Ends in_loop) (part n w s) → Keeps Allowed (After scope in_loop) (block leave part n w s)
-    block_of part scope in_loop n w s inv h = keeps_weaker Allowed (Left scope in_loop) (After scope in_loop) (block leave part n w s) (left_after scope in_loop) (left_of part scope in_loop n w s inv h)
+    block_of : (part : Part CState (Control (Option CValue))) (scope : Declarations) (in_loop : Bool) (n : ℕ) (w : World) (s : CState) → Within scope callers s → Keeps IsNotStuck (Ends in_loop) (part n w s) → Keeps IsNotStuck (After scope in_loop) (block leave part n w s)
+    block_of part scope in_loop n w s inv h = keeps_weaker IsNotStuck (Left scope in_loop) (After scope in_loop) (block leave part n w s) (left_after scope in_loop) (left_of part scope in_loop n w s inv h)
 
     mutual
-      exec_keeps : (st : Stmt) (scope : Declarations) (in_loop : Bool) → IsMeant u target earlier result scope in_loop st → (n : ℕ) (w : World) (s : CState) → Within scope callers s → Keeps Allowed (After (behind st scope) in_loop) (exec p functions st n w s)
+      exec_keeps : (st : Stmt) (scope : Declarations) (in_loop : Bool) → IsMeant u target earlier result scope in_loop st → (n : ℕ) (w : World) (s : CState) → Within scope callers s → Keeps IsNotStuck (After (behind st scope) in_loop) (exec p functions st n w s)
       exec_keeps (Const x ty e) scope in_loop meant n w s inv =
           with_value_keeps (After (and_name x ty scope) in_loop) scope e meant.1 (declaration p x ty) n w s inv (λ v typed m. declaration_keeps x ty meant.0 v typed scope in_loop m w s inv)
       exec_keeps (ConstCall x ty c) scope in_loop meant n w s inv =
-          keeps_after Allowed (CallPost meant.1.called.result s) (After (and_name x ty scope) in_loop) (call_step p functions c n w s) (λ value. tick (used p value (declaration p x ty))) (call_step_keeps scope c meant.1 n w s inv)
-          (λ value v h m later. keeps_tick Allowed (After (and_name x ty scope) in_loop) (used p value (declaration p x ty)) m later v
+          keeps_after IsNotStuck (CallPost meant.1.called.result s) (After (and_name x ty scope) in_loop) (call_step p functions c n w s) (λ value. tick (used p value (declaration p x ty))) (call_step_keeps scope c meant.1 n w s inv)
+          (λ value v h m later. keeps_tick IsNotStuck (After (and_name x ty scope) in_loop) (used p value (declaration p x ty)) m later v
           (λ k. used_keeps x ty meant.0 meant.1.called.result value h.0 scope in_loop k later v (same_within scope callers s v inv h.1)))
       exec_keeps (Object x b i) scope in_loop meant n w s inv = absurd meant
       exec_keeps (Assign place e) scope in_loop meant n w s inv = absurd meant
       exec_keeps (If e a) scope in_loop meant n w s inv =
           with_value_keeps (After scope in_loop) scope e meant.0 _ n w s inv
-          (λ v typed m. keeps_choice Allowed (After scope in_loop) (is_true v) (block leave (exec_all p functions a)) (give Falls) m w s (λ is. block_of (exec_all p functions a) scope in_loop m w s inv (exec_all_keeps a scope in_loop meant.1 m w s inv)) inv)
+          (λ v typed m. keeps_choice IsNotStuck (After scope in_loop) (is_true v) (block leave (exec_all p functions a)) (give Falls) m w s (λ is. block_of (exec_all p functions a) scope in_loop m w s inv (exec_all_keeps a scope in_loop meant.1 m w s inv)) inv)
       exec_keeps (IfElse e a b) scope in_loop meant n w s inv =
           with_value_keeps (After scope in_loop) scope e meant.0 _ n w s inv
-          (λ v typed m. keeps_choice Allowed (After scope in_loop) (is_true v) (block leave (exec_all p functions a)) (block leave (exec_all p functions b)) m w s
+          (λ v typed m. keeps_choice IsNotStuck (After scope in_loop) (is_true v) (block leave (exec_all p functions a)) (block leave (exec_all p functions b)) m w s
           (λ is. block_of (exec_all p functions a) scope in_loop m w s inv (exec_all_keeps a scope in_loop meant.1 m w s inv)) (block_of (exec_all p functions b) scope in_loop m w s inv (exec_all_keeps b scope in_loop meant.2 m w s inv)))
       exec_keeps (Forever body) scope in_loop meant n w s inv =
-          keeps_forever Allowed (Left scope true) (After scope in_loop) (λ v h. h.1) (λ value v h. (h.0, h.1.waiting)) (block leave (exec_all p functions body)) (λ v h m later. left_of (exec_all p functions body) scope true m later v h (exec_all_keeps body scope true meant m later v h)) n w s inv
-      exec_keeps Break scope in_loop meant n w s inv = keeps_tick Allowed (After scope in_loop) (give Broke) n w s (λ m. (meant, inv.waiting))
-      exec_keeps (Return None) scope in_loop meant n w s inv = keeps_tick Allowed (After scope in_loop) (give (Returned None)) n w s (λ m. (meant, inv.waiting))
+          keeps_forever IsNotStuck (Left scope true) (After scope in_loop) (λ v h. h.1) (λ value v h. (h.0, h.1.waiting)) (block leave (exec_all p functions body)) (λ v h m later. left_of (exec_all p functions body) scope true m later v h (exec_all_keeps body scope true meant m later v h)) n w s inv
+      exec_keeps Break scope in_loop meant n w s inv = keeps_tick IsNotStuck (After scope in_loop) (give Broke) n w s (λ m. (meant, inv.waiting))
+      exec_keeps (Return None) scope in_loop meant n w s inv = keeps_tick IsNotStuck (After scope in_loop) (give (Returned None)) n w s (λ m. (meant, inv.waiting))
       exec_keeps (Return (Some e)) scope in_loop meant n w s inv = with_value_keeps (After scope in_loop) scope e meant.1 _ n w s inv (λ v typed m. ((meant.0, typed), inv.waiting))
       exec_keeps (Block body) scope in_loop meant n w s inv = block_of (exec_all p functions body) scope in_loop n w s inv (exec_all_keeps body scope in_loop meant n w s inv)
       exec_keeps (Call c) scope in_loop meant n w s inv =
-          keeps_after Allowed (CallPost meant.called.result s) (After scope in_loop) (call_step p functions c n w s) (λ value. give Falls) (call_step_keeps scope c meant n w s inv)
+          keeps_after IsNotStuck (CallPost meant.called.result s) (After scope in_loop) (call_step p functions c n w s) (λ value. give Falls) (call_step_keeps scope c meant n w s inv)
           (λ value v h m later. same_within scope callers s v inv h.1)
 
-      exec_all_keeps : (ss : Stmts) (scope : Declarations) (in_loop : Bool) → AreMeant u target earlier result scope in_loop ss → (n : ℕ) (w : World) (s : CState) → Within scope callers s → Keeps Allowed (Ends in_loop) (exec_all p functions ss n w s)
+      exec_all_keeps : (ss : Stmts) (scope : Declarations) (in_loop : Bool) → AreMeant u target earlier result scope in_loop ss → (n : ℕ) (w : World) (s : CState) → Within scope callers s → Keeps IsNotStuck (Ends in_loop) (exec_all p functions ss n w s)
       exec_all_keeps Nil scope in_loop meant n w s inv = inv.waiting
       exec_all_keeps (Cons st rest) scope in_loop meant n w s inv =
-          keeps_also Allowed (After (behind st scope) in_loop) (Ends in_loop) (exec p functions st) (exec_all p functions rest) n w s (exec_keeps st scope in_loop meant.0 n w s inv)
+          keeps_also IsNotStuck (After (behind st scope) in_loop) (Ends in_loop) (exec p functions st) (exec_all p functions rest) n w s (exec_keeps st scope in_loop meant.0 n w s inv)
           (λ v h m later. exec_all_keeps rest (behind st scope) in_loop meant.1 m later v h) (λ v h. h) (λ value v h. h)
 
-    left_keeps : (ss : Stmts) (scope : Declarations) (in_loop : Bool) → AreMeant u target earlier result scope in_loop ss → (n : ℕ) (w : World) (s : CState) → Within scope callers s → Keeps Allowed (Left scope in_loop) (block leave (exec_all p functions ss) n w s)
+    left_keeps : (ss : Stmts) (scope : Declarations) (in_loop : Bool) → AreMeant u target earlier result scope in_loop ss → (n : ℕ) (w : World) (s : CState) → Within scope callers s → Keeps IsNotStuck (Left scope in_loop) (block leave (exec_all p functions ss) n w s)
     left_keeps ss scope in_loop meant n w s inv = left_of (exec_all p functions ss) scope in_loop n w s inv (exec_all_keeps ss scope in_loop meant n w s inv)
 
   -- ---- functions
@@ -416,7 +409,7 @@ module _ (u : TranslationUnit) (target : Target) where
   Gone result Broke = ⊥
   Gone result (Returned value) = Returns result value
 
-  value_keeps : (result : CType) (control : Control (Option CValue)) → Gone result control → (s v : CState) → Same s v → (n : ℕ) (w : World) → Keeps Allowed (CallPost result s) (function_value p result control n w v)
+  value_keeps : (result : CType) (control : Control (Option CValue)) → Gone result control → (s v : CState) → Same s v → (n : ℕ) (w : World) → Keeps IsNotStuck (CallPost result s) (function_value p result control n w v)
   value_keeps result Falls h s v same n w = (tt, same)
   value_keeps result Broke h s v same n w = absurd h
   value_keeps Void (Returned None) h s v same n w = (tt, same)
@@ -435,44 +428,44 @@ module _ (u : TranslationUnit) (target : Target) where
       gone s Broke v h = let no : ⊥ = (let broke : IsTrue false = h.0 in cc) in absurd no
       gone s (Returned value) v h = (h.0, returned_same s v v.callers h.1.waiting)
 
-      body_keeps : (args : List CValue) → AreHeld (param_types f.params) args → (n : ℕ) (w : World) (s : CState) → Keeps Allowed (CallPost f.result s) (function_body p functions f args n w s)
+      body_keeps : (args : List CValue) → AreHeld (param_types f.params) args → (n : ℕ) (w : World) (s : CState) → Keeps IsNotStuck (CallPost f.result s) (function_body p functions f args n w s)
       body_keeps args held n w s =
           let inner : CState = enter (bound f.params args) s in
           let body : Part CState (Control (Option CValue)) = block leave (exec_all p functions f.body) in
           let mid : Control (Option CValue) → CState → Type 0 = λ control v. Gone f.result control × Same s v in
           let within : Within (of_params f.params) (s.frame ∷ s.callers) inner = record { typed = bound_typed f.params args held; names = bound_names f.params args held; objects = refl; waiting = refl } in
-          keeps_after Allowed mid (CallPost f.result s) (in_own_frame (bound f.params args) body n w s) (function_value p f.result)
-          (keeps_left Allowed (LeftIn s) mid (λ before after. return_from after) s (body n w inner) (gone s)
+          keeps_after IsNotStuck mid (CallPost f.result s) (in_own_frame (bound f.params args) body n w s) (function_value p f.result)
+          (keeps_left IsNotStuck (LeftIn s) mid (λ before after. return_from after) s (body n w inner) (gone s)
           (left_keeps no_objects externs earlier functions keep f.result (s.frame ∷ s.callers) f.body (of_params f.params) false meant.body n w inner within))
           (λ control v h m later. value_keeps f.result control h.0 s v h.1 m later)
 
-      function_keeps : (values : List CValue) → AreNumbers (param_types f.params) values → (n : ℕ) (w : World) (s : CState) → Keeps Allowed (CallPost f.result s) (function_call p functions f values n w s)
+      function_keeps : (values : List CValue) → AreNumbers (param_types f.params) values → (n : ℕ) (w : World) (s : CState) → Keeps IsNotStuck (CallPost f.result s) (function_call p functions f values n w s)
       function_keeps values numbers n w s =
           good_given (AreHeld (param_types f.params)) (CallPost f.result s) (as_arguments target (param_types f.params) values) (function_body p functions f) n w s (arguments_good (param_types f.params) values numbers) (λ args held. body_keeps args held n w s)
 
       with_function_keeps : CallsKeep (f ∷ earlier) (with_function p functions f)
       with_function_keeps name called found values numbers n w s = by (same_word f.name name) found
         where
-          by : (test : Bool) → (if test then Some (function_signature f) else earlier_signature earlier name) ≡ Some called → Keeps Allowed (CallPost called.result s) ((if test then function_call p functions f values else functions name values) n w s)
+          by : (test : Bool) → (if test then Some (function_signature f) else earlier_signature earlier name) ≡ Some called → Keeps IsNotStuck (CallPost called.result s) ((if test then function_call p functions f values else functions name values) n w s)
           by true is =
               let same = some_same (function_signature f) called is in
-              subst (λ r. Keeps Allowed (CallPost r s) (function_call p functions f values n w s)) (ap (λ c. c.result) same)
+              subst (λ r. Keeps IsNotStuck (CallPost r s) (function_call p functions f values n w s)) (ap (λ c. c.result) same)
               (function_keeps values (subst (λ ts. AreNumbers ts values) (sym (ap (λ c. c.params) same)) numbers) n w s)
           by false is = keep name called is values numbers n w s
 
       -- ---- entry calls
 
-      entry_result_keeps : (result : CType) → IsResult result → (value : Option CValue) → Gives result value → (n : ℕ) (w : World) (s : CState) → Keeps Allowed (λ number v. ⊤) (entry_result p result value n w s)
+      entry_result_keeps : (result : CType) → IsResult result → (value : Option CValue) → Gives result value → (n : ℕ) (w : World) (s : CState) → Keeps IsNotStuck (λ number v. ⊤) (entry_result p result value n w s)
       entry_result_keeps Void is value gives n w s = tt
       entry_result_keeps (Value y) is None gives n w s = λ e. cc
       entry_result_keeps (Value y) is (Some (Num k v)) gives n w s = tt
       entry_result_keeps (Value y) is (Some (Ptr constant base to)) gives n w s = absurd gives.0
       entry_result_keeps (Pointer constant base) is value gives n w s = absurd is
 
-      entered_keeps : (values : List ℤ) → Good (AreNumbers (param_types f.params)) (entry_values (param_types f.params) values) → (n : ℕ) (w : World) (s : CState) → Keeps Allowed (λ number v. ⊤) (entered p functions f values n w s)
+      entered_keeps : (values : List ℤ) → Good (AreNumbers (param_types f.params)) (entry_values (param_types f.params) values) → (n : ℕ) (w : World) (s : CState) → Keeps IsNotStuck (λ number v. ⊤) (entered p functions f values n w s)
       entered_keeps values good n w s =
           good_given (AreNumbers (param_types f.params)) (λ number v. ⊤) (entry_values (param_types f.params) values) _ n w s good
-          (λ args numbers. keeps_after Allowed (CallPost f.result s) (λ number v. ⊤) (function_call p functions f args n w s) (entry_result p f.result) (function_keeps args numbers n w s)
+          (λ args numbers. keeps_after IsNotStuck (CallPost f.result s) (λ number v. ⊤) (function_call p functions f args n w s) (entry_result p f.result) (function_keeps args numbers n w s)
           (λ value v h m later. entry_result_keeps f.result meant.result value h.0 m later v))
 
     -- the plain types of parameters, and what numbers that fit them are
@@ -519,7 +512,7 @@ module _ (u : TranslationUnit) (target : Target) where
       Fitting fs = IsTrue (found_fits (export_of name (exports_among fs)) values)
 
       abbrev Kept : Part CState (Option ℤ) → Type 0
-      Kept part = Keeps Allowed (λ number v. ⊤) (part n w s)
+      Kept part = Keeps IsNotStuck (λ number v. ⊤) (part n w s)
 
       this_or_later : (earlier : List Function) (functions : Calls) (keep : CallsKeep earlier functions) (f : Function) (meant : FunctionIsMeant u target earlier f) (fs : List Function) (rest : Part CState (Option ℤ)) → (Fitting fs → Kept rest)
           → (plains : List Plain) → ((vs : List ℤ) → IsTrue (values_fit plains vs) → Good (AreNumbers (param_types f.params)) (entry_values (param_types f.params) vs)) → (plain : Option Plain) (test : Bool)
@@ -551,7 +544,7 @@ module _ (u : TranslationUnit) (target : Target) where
 
   run_not_stuck : UnitIsMeant u target → (script : Script) → Fits script (c_exports u) → (n : ℕ) (os : List FileObject) → os ≡ [] → (run_from p (first_state_of os) script n).end ≢ Stopped no_site
   run_not_stuck meant script fits n [] none e =
-      keeps_run Allowed (λ s. ⊤) (c_exports u) (entry p)
+      keeps_run IsNotStuck (λ s. ⊤) (c_exports u) (entry p)
       (λ entry_call call_fits m w s x. entry_among_keeps meant.objects meant.externs entry_call.name entry_call.values m w s u.functions [] (no_functions p) (nothing_earlier meant.objects meant.externs) meant.functions call_fits)
       (seen p) at_rest tt script fits n (FailedCheck no_site) e refl
   run_not_stuck meant script fits n (o ∷ os) none e = let no : ⊥ = cc in absurd no

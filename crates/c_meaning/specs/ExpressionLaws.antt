@@ -1,6 +1,6 @@
 -- What holds of the values of expressions: they have the types of their expressions, and their numbers are numbers of these types; and an
 -- expression of numbers that has a type is never stuck.
-use Rattle.std.specs.Prelude.{◌≡◌, ◌≢◌, ⊤, List, [], All, Option, Some, IfOk, IsTrue, Err}
+use Rattle.std.specs.Prelude.{◌≡◌, ◌≢◌, ⊤, [], All, Option, Some, IfOk, IsTrue, Err}
 use Rattle.c_ast.specs.declared.CType.TheVariants.{Void, Value, Pointer}
 use Rattle.c_ast.specs.Syntax.{Expr, Number, Read, Address, Unary, Binary, Cast, Cond, Var, At, Member, Element}
 use Rattle.c_ast.specs.StaticTypes.{ValueType}

@@ -1,9 +1,10 @@
 -- What holds of every run of C, and when a run is never stuck.
-use Rattle.std.specs.Prelude.{◌≢◌, ℕ, ◌^◌, List}
+use Rattle.std.specs.Prelude.{◌≢◌, ⊤, ℕ, ◌^◌, List}
 use Rattle.iv_script.specs.declared.End.TheVariants.{Stopped}
 use Rattle.iv_script.specs.declared.Script.{Script}
 use Rattle.iv_script.specs.Scripts.{Fits}
-use Rattle.step_semantics.specs.Steps.{FailedCheck}
+use Rattle.step_semantics.specs.Steps.{World, Halt, FailedCheck, Part}
+use Rattle.step_semantics.specs.Safe.{Keeps}
 use Rattle.step_semantics.specs.Lawful.{Lawful}
 use Rattle.step_semantics.specs.Outcomes.{OutcomeLaws}
 use Rattle.c_ast.specs.declared.Target.{Target}
@@ -11,7 +12,7 @@ use Rattle.c_ast.specs.Exports.{c_exports}
 use Rattle.c_ast.specs.Syntax.{Name, TranslationUnit}
 use Rattle.c_meaning.specs.Values.{CValue}
 use Rattle.c_meaning.specs.Calls.{Calls}
-use Rattle.c_meaning.specs.State.{Program}
+use Rattle.c_meaning.specs.State.{Program, CState}
 use Rattle.c_meaning.specs.Meant.{UnitIsMeant}
 use Rattle.c_meaning.specs.Runs.{run_program, run_c}
 
@@ -31,6 +32,13 @@ no_site = 2 ^ 32
 -- the unit, where a run that is stuck is shown as a stop at that site: so it is told apart from all others
 abbrev pub watched : TranslationUnit → Target → Program
 watched u t = record { target = t; unit = u; stuck = FailedCheck no_site }
+
+abbrev pub IsNotStuck : Halt → Type 0
+IsNotStuck how = how ≢ FailedCheck no_site
+
+-- a part of such a run that is not stuck, from whatever state; its end and its steps are free
+abbrev pub PartIsNeverStuck : {A : Type 0} → Part CState A → Type 0
+PartIsNeverStuck part = (n : ℕ) (w : World) (s : CState) → Keeps IsNotStuck (λ a u. ⊤) (part n w s)
 
 -- no run of a script that fits is ever stuck
 abbrev pub NeverStuck : TranslationUnit → Target → Type 0

@@ -1,7 +1,6 @@
 -- Units of the forms that have a meaning so far, and that keep the rules of names and types: numbers, const names, calls, conditions,
 -- loops, blocks, `break` and `return`. Objects and pointers are none of them.
-use Rattle.std.specs.Prelude.{◌≡◌, ⊤, ℕ, List, [], ◌∷◌, map, Bool, true, false, IsTrue, Option, Some, None, if◌then◌else◌, All}
-use Rattle.std.specs.Option.{option_map}
+use Rattle.std.specs.Prelude.{◌≡◌, ⊤, List, [], ◌∷◌, map, Bool, true, false, IsTrue, Option, Some, None, if◌then◌else◌, All}
 use Rattle.std.specs.List.{find}
 use Rattle.iv_words.specs.Words.{same_word}
 use Rattle.iv_words.specs.declared.IntKind.TheVariants.{U32}

@@ -4,7 +4,7 @@ use Rattle.iv_words.specs.Words.{same_word}
 use Rattle.c_ast.specs.Syntax.{Name, FileObject}
 use Rattle.c_ast.specs.StaticTypes.{Entity, ConstName, ObjectName, Scope, declared}
 use Rattle.c_meaning.specs.Values.{CValue, held_type}
-use Rattle.c_meaning.specs.State.{Program, Frame, CState, LocalObject}
+use Rattle.c_meaning.specs.State.{Program, CState, LocalObject}
 
 -- what the table has for a name: the latest of that name (6.2.1)
 abbrev pub named : {A : Type 0} → List (Name × A) → Name → Option A

@@ -5,15 +5,14 @@ use Rattle.std.specs.Prelude.{if◌then◌else◌, int_le, nat_lt, nat_le}
 use Rattle.std.proofs.lemmas.Int.{ints}
 use Rattle.std.proofs.lemmas.Nat.{pow_pos}
 use Rattle.iv_words.specs.Kinds.{in_range_of}
-use Rattle.iv_script.specs.declared.Reason.{Reason}
 use Rattle.iv_script.specs.declared.Reason.TheVariants.{SignedOverflow}
 use Rattle.c_ast.specs.declared.Arith.{Arith}
 use Rattle.c_ast.specs.declared.Arith.TheVariants.{Int, UInt, Long, ULong, LongLong, ULongLong}
 use Rattle.c_ast.specs.declared.CKind.{CKind}
 use Rattle.c_ast.specs.Targets.{TargetTable, arith_bits, arith_signed, represents, rank, unsigned_of, promoted, common_signed, common_in, common_type}
 use Rattle.c_ast.specs.Conversions.{can_hold}
-use Rattle.c_meaning.specs.Values.{Num, on_ok}
-use Rattle.c_meaning.specs.Operators.{Operator, fitted, computed, truth, converted_or, operand, in_common, usual, compared}
+use Rattle.c_meaning.specs.Values.{Trouble, Num}
+use Rattle.c_meaning.specs.Operators.{Operator, fitted, with_number, computed, truth, converted_or, operand, in_common, usual, compared}
 use Rattle.c_ast.proofs.Conversions.{held_stays}
 use Rattle.iv_words.proofs.Ranges.{powers_grow}
 use Rattle.iv_words.proofs.Modular.{modulo_of_held}
@@ -84,12 +83,12 @@ module _ (t : TargetTable) (table : CTable t) where
   operand_is : (c : Arith) (v : ℤ) → Holds c v → operand t c v ≡ Ok v
   operand_is c v h = ap converted_or (held_stays (arith_bits t c) (arith_signed c) v h)
 
-  pub in_common_kept : {A : Type 0} (next : Arith → ℤ → ℤ → Result A Reason) (k l : CKind) (x y : ℤ) → Holds (common_type t k l) x → Holds (common_type t k l) y
+  pub in_common_kept : {A : Type 0} (next : Arith → ℤ → ℤ → Result A Trouble) (k l : CKind) (x y : ℤ) → Holds (common_type t k l) x → Holds (common_type t k l) y
       → in_common t next (Num k x) (Num l y) ≡ next (common_type t k l) x y
   in_common_kept {A} next k l x y h g =
       let c = common_type t k l in
-      ap (λ r. let q : Result A Reason = on_ok r (λ u. on_ok (operand t c y) (λ w. next c u w)) in q) (operand_is c x h)
-      ∙ ap (λ r. let q : Result A Reason = on_ok r (λ w. next c x w) in q) (operand_is c y g)
+      ap (λ r. let q : Result A Trouble = with_number r (λ u. with_number (operand t c y) (λ w. next c u w)) in q) (operand_is c x h)
+      ∙ ap (λ r. let q : Result A Trouble = with_number r (λ w. next c x w) in q) (operand_is c y g)
 
   pub usual_kept : (f : Operator) (k l : CKind) (x y : ℤ) → Holds (common_type t k l) x → Holds (common_type t k l) y
       → usual t f (Num k x) (Num l y) ≡ computed (common_type t k l) (f (arith_bits t (common_type t k l)) (arith_signed (common_type t k l)) x y)

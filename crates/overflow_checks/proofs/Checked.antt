@@ -13,7 +13,7 @@ use Rattle.int_ops.specs.declared.Stop.{Stop}
 use Rattle.int_ops.specs.declared.Stop.TheVariants.{Overflow, DivZero, Shift}
 use Rattle.c_ast.specs.declared.Target.TheVariants.{T32}
 use Rattle.c_meaning.specs.Values.{Num}
-use Rattle.c_meaning.specs.State.{Program, CState}
+use Rattle.c_meaning.specs.State.{Program, program_of, CState}
 use Rattle.overflow_checks.specs.Checks.{checks_at, is_among}
 use Rattle.overflow_checks.specs.Laws.{StopsAreChecks, RefusedGuards}
 use Rattle.overflow_checks.proofs.Given.{of_kind}
@@ -66,11 +66,11 @@ stops_are_checks o kind which x y h k e = stop_is_check o kind (is_signed kind) 
 -- ---- guards that the contract refuses
 
 abbrev program : Program
-program = record { target = T32; unit = record { structs = []; externs = []; objects = []; functions = [] } }
+program = program_of (record { structs = []; externs = []; objects = []; functions = [] }) T32
 
 -- a state in which a and b hold these numbers
 abbrev holding : ℤ → ℤ → CState
-holding x y = record { names = (codes "a", Num (of_kind I32) x) ∷ (codes "b", Num (of_kind I32) y) ∷ [] }
+holding x y = record { frame = record { values = (codes "a", Num (of_kind I32) x) ∷ (codes "b", Num (of_kind I32) y) ∷ []; objects = [] }; callers = [] }
 
 abbrev least : ℤ
 least = pos 0 -ℤ pos 2147483648
@@ -87,9 +87,9 @@ one_is_not_zero e = cc
 pub refused_guards : RefusedGuards
 refused_guards = record {
   adds_first = λ guard. guard program (holding (pos 2147483647) (pos 1)) (pos 2147483647) (pos 1) refl
-      (record { left = (refl, refl); right = λ two. (refl, refl) }) (All-nil (λ earlier. exact op.Add I32 (pos 2147483647) (pos 1) ≢ Err earlier));
+      (record { left = record { gives = refl; type = refl; is_in = refl }; right = λ two. record { gives = refl; type = refl; is_in = refl } }) (All-nil (λ earlier. exact op.Add I32 (pos 2147483647) (pos 1) ≢ Err earlier));
   always_passes = λ guard. let test = guard program (holding least minus_one) least minus_one refl
-      (record { left = (refl, refl); right = λ two. (refl, refl) })
+      (record { left = record { gives = refl; type = refl; is_in = refl }; right = λ two. record { gives = refl; type = refl; is_in = refl } })
       (All-cons (λ earlier. exact op.Div I32 least minus_one ≢ Err earlier) DivZero [] no_zero (All-nil (λ earlier. exact op.Div I32 least minus_one ≢ Err earlier))) in
       one_is_not_zero (test.1 refl);
 }

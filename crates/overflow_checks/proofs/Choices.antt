@@ -6,7 +6,7 @@ use Rattle.c_ast.specs.declared.CBinary.{CBinary}
 use Rattle.c_ast.specs.declared.CBinary.TheVariants.{AndAlso, OrElse}
 use Rattle.c_ast.specs.Syntax.{Expr, Binary}
 use Rattle.c_ast.specs.Targets.{table_of}
-use Rattle.c_meaning.specs.Values.{CValue, is_true, on_ok}
+use Rattle.c_meaning.specs.Values.{Trouble, CValue, is_true, on_ok}
 use Rattle.c_meaning.specs.Operators.{truth, binary}
 use Rattle.c_meaning.specs.State.{Program, CState}
 use Rattle.c_meaning.specs.Expressions.{eval}
@@ -18,10 +18,10 @@ is_true_of_truth false = refl
 
 module _ (p : Program) (s : CState) (a b : Expr) where
   left : (op : CBinary) (x : Bool) → Tests p s a x → eval p (Binary op a b) s ≡ binary (table_of p.target) op (truth x) (eval p b s)
-  left op x h = ap (λ r. let q : Result CValue Reason = on_ok r (λ v. binary (table_of p.target) op v (eval p b s)) in q) h
+  left op x h = ap (λ r. let q : Result CValue Trouble = on_ok r (λ v. binary (table_of p.target) op v (eval p b s)) in q) h
 
-  right : (y : Bool) → Tests p s b y → on_ok (eval p b s) (λ v. let q : Result CValue Reason = Ok (truth (is_true v)) in q) ≡ Ok (truth y)
-  right y h = ap (λ r. let q : Result CValue Reason = on_ok r (λ v. Ok (truth (is_true v))) in q) h ∙ ap (λ z. Ok (truth z)) (is_true_of_truth y)
+  right : (y : Bool) → Tests p s b y → on_ok (eval p b s) (λ v. let q : Result CValue Trouble = Ok (truth (is_true v)) in q) ≡ Ok (truth y)
+  right y h = ap (λ r. let q : Result CValue Trouble = on_ok r (λ v. Ok (truth (is_true v))) in q) h ∙ ap (λ z. Ok (truth z)) (is_true_of_truth y)
 
   pub or_else_tests : (x y : Bool) → Tests p s a x → (x ≡ false → Tests p s b y) → Tests p s (Binary OrElse a b) (x || y)
   or_else_tests true y h k = left OrElse true h

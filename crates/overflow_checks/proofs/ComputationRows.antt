@@ -22,11 +22,11 @@ use Rattle.c_meaning.specs.State.{Program, CState}
 use Rattle.c_meaning.specs.Expressions.{eval}
 use Rattle.c_ast.proofs.Conversions.{held_stays}
 use Rattle.iv_words.proofs.Modular.{modulo_of_held}
-use Rattle.overflow_checks.specs.Contract.{IsOperand, OperandsStandFor, result_type, ComesTo, IsComputation}
+use Rattle.overflow_checks.specs.Contract.{IsGiven, IsOperand, OperandsStandFor, result_type, ComesTo, IsComputation}
 use Rattle.overflow_checks.specs.Parts.{operand_of}
 use Rattle.overflow_checks.specs.Forms.{computation_of, computation_for}
 use Rattle.overflow_checks.proofs.Tables.{CTable, table_of_target}
-use Rattle.overflow_checks.proofs.Given.{IsGiven, operand_is_given}
+use Rattle.overflow_checks.proofs.Given.{operand_is_given}
 use Rattle.overflow_checks.proofs.Rows.{AreGiven, Tests, GivesNumber}
 use Rattle.iv_words.proofs.Widths.{range_of_sign}
 use Rattle.overflow_checks.proofs.TruthRows.{eq_tests, ne_tests, lt_tests, le_tests, gt_tests, ge_tests}
@@ -144,7 +144,7 @@ module _ (p : Program) (s : CState) (table : CTable (table_of p.target)) (kind :
 
 -- ---- the promise
 
-computation_here : (p : Program) (s : CState) (o : Op) (kind : IntKind) (a b : Expr) (x y v : ℤ) → IsTrue (is_allowed o kind) → OperandsStandFor s o kind a b x y → exact o kind x y ≡ Ok v
+computation_here : (p : Program) (s : CState) (o : Op) (kind : IntKind) (a b : Expr) (x y v : ℤ) → IsTrue (is_allowed o kind) → OperandsStandFor p s o kind a b x y → exact o kind x y ≡ Ok v
     → IsOperand p.target kind a → (IsTrue (is_binary o) → IsOperand p.target kind b) → ComesTo p.target (result_type o kind) v (eval p (computation_for (width kind) (is_signed kind) o a b) s)
 computation_here p s o kind a b x y v allowed stands is left right =
     let g = operand_is_given p s kind a x left stands.left in

@@ -4,7 +4,6 @@ use Rattle.std.specs.Prelude.{IsSome}
 use Rattle.std.specs.Option.{option_map, option_and_then}
 use Rattle.iv_words.specs.Kinds.{in_range, width, is_signed, kind_at}
 use Rattle.iv_words.specs.declared.IntKind.{IntKind}
-use Rattle.iv_script.specs.declared.Reason.{Reason}
 use Rattle.c_ast.specs.declared.Arith.{Arith}
 use Rattle.c_ast.specs.declared.CScalar.TheVariants.{Int as Exact}
 use Rattle.c_ast.specs.declared.CKind.{CKind}
@@ -13,16 +12,17 @@ use Rattle.c_ast.specs.declared.CType.TheVariants.{Value}
 use Rattle.c_ast.specs.declared.Suffix.{Suffix}
 use Rattle.c_ast.specs.declared.CUnary.{CUnary}
 use Rattle.c_ast.specs.declared.CBinary.{CBinary}
-use Rattle.c_ast.specs.Syntax.{Name, Expr, Number, Read, Address, Unary, Binary, Cast, Cond, Var, At, Member, Element}
+use Rattle.c_ast.specs.Syntax.{Expr, Number, Read, Address, Unary, Binary, Cast, Cond}
+use Rattle.c_ast.specs.StaticTypes.{ValueType, Arithmetic, of_cast}
 use Rattle.c_ast.specs.Targets.{TargetTable, table_of}
 use Rattle.c_ast.specs.Conversions.{converted, constant_type, constant_type_in}
-use Rattle.c_meaning.specs.Values.{CValue, Num, kind_of, on_ok, typed, as_assigned, of_type}
+use Rattle.c_meaning.specs.Values.{Trouble, CValue, Num, on_ok, typed, as_assigned, of_type}
 use Rattle.c_meaning.specs.Operators.{unary, binary}
 use Rattle.c_meaning.specs.State.{Program, CState}
-use Rattle.c_meaning.specs.Expressions.{type_of, scope_types, named, held, cast_type, eval}
+use Rattle.c_meaning.specs.Expressions.{eval}
 use Rattle.iv_words.proofs.Widths.{kind_at_width}
 use Rattle.c_ast.proofs.Conversions.{held_stays}
-use Rattle.overflow_checks.specs.Contract.{IsOperand, StandsFor}
+use Rattle.overflow_checks.specs.Contract.{IsOperand, IsGiven, StandsFor}
 use Rattle.overflow_checks.specs.Parts.{cast_to, operand_of}
 
 -- the kind's type
@@ -40,48 +40,36 @@ module _ (p : Program) (s : CState) where
 
   pub binary_gives : (op : CBinary) (a b : Expr) (v w : CValue) → Gives a v → Gives b w → eval p (Binary op a b) s ≡ binary table op v (Ok w)
   binary_gives op a b v w ea eb =
-      ap (λ r. let q : Result CValue Reason = on_ok r (λ u. binary table op u (eval p b s)) in q) ea ∙ ap (binary table op v) eb
+      ap (λ r. let q : Result CValue Trouble = on_ok r (λ u. binary table op u (eval p b s)) in q) ea ∙ ap (binary table op v) eb
 
   pub unary_gives : (op : CUnary) (a : Expr) (v : CValue) → Gives a v → eval p (Unary op a) s ≡ unary table op v
-  unary_gives op a v ea = ap (λ r. let q : Result CValue Reason = on_ok r (unary table op) in q) ea
+  unary_gives op a v ea = ap (λ r. let q : Result CValue Trouble = on_ok r (unary table op) in q) ea
 
   pub cast_gives : (kind : IntKind) (e : Expr) (k : CKind) (v w : ℤ) → Gives e (Num k v) → converted (width kind) (is_signed kind) v ≡ Some w → Gives (cast_to kind e) (Num (of_kind kind) w)
-  cast_gives kind e k v w ee c = ap (λ r. let q : Result CValue Reason = on_ok r (as_assigned p.target (Value (Exact kind))) in q) ee ∙ ap (typed (of_kind kind)) c
+  cast_gives kind e k v w ee c = ap (λ r. let q : Result CValue Trouble = on_ok r (as_assigned p.target (Value (Exact kind))) in q) ee ∙ ap (typed (of_kind kind)) c
 
   pub constant_gives : (n : ℕ) (suffix : Suffix) (c : Arith) → constant_type_in table suffix n ≡ Some c → Gives (Number n suffix) (Num (Computed c) (pos n))
   constant_gives n suffix c e = ap (λ o. of_type o n) e
 
   -- ---- operands
 
-  -- an expression of the kind's type, with the number that it has
-  pub record IsGiven (kind : IntKind) (e : Expr) (v : ℤ) : Type 0 where
-    pub gives : Gives e (Num (of_kind kind) v)
-    pub type : type_of table (scope_types s) e ≡ Some (of_kind kind)
-    pub is_in : IsTrue (in_range kind v)
-
   some_of : (n : ℕ) (suffix : Suffix) (found : Option Arith) → constant_type_in table suffix n ≡ found → IsSome found → (kind : IntKind) → IsTrue (in_range kind (pos n))
-      → IsGiven kind (cast_to kind (Number n suffix)) (pos n)
+      → IsGiven p s kind (cast_to kind (Number n suffix)) (pos n)
   some_of n suffix None e found kind h = cc
   some_of n suffix (Some c) e found kind h = record {
     gives = cast_gives kind (Number n suffix) (Computed c) (pos n) (pos n) (constant_gives n suffix c e) (held_stays (width kind) (is_signed kind) (pos n) h);
-    type = ap (λ o. let q : Option CKind = option_and_then (λ k. cast_type (Value (Exact kind))) (option_map Computed o) in q) e;
+    type = ap (λ o. let q : Option ValueType = option_and_then (of_cast (Value (Exact kind))) (option_map (λ a. Arithmetic (Computed a)) o) in q) e;
     is_in = h;
   }
 
-  named_gives : (x : Name) (kind : IntKind) (v : ℤ) → named s.names x ≡ Some (Num (of_kind kind) v) → IsTrue (in_range kind v) → IsGiven kind (Read (Var x)) v
-  named_gives x kind v e h = record { gives = ap held e; type = ap (option_map kind_of) e; is_in = h }
-
   -- an operand that stands for a number is given
-  pub operand_is_given : (kind : IntKind) (e : Expr) (v : ℤ) → IsOperand p.target kind e → StandsFor s kind e v → IsGiven kind (operand_of (width kind) (is_signed kind) e) v
+  pub operand_is_given : (kind : IntKind) (e : Expr) (v : ℤ) → IsOperand p.target kind e → StandsFor p s kind e v → IsGiven p s kind (operand_of (width kind) (is_signed kind) e) v
   operand_is_given kind (Number n suffix) v o h =
-      subst (λ k. IsGiven kind (cast_to k (Number n suffix)) v) (sym (kind_at_width kind))
-      (subst (IsGiven kind (cast_to kind (Number n suffix))) h (some_of n suffix (constant_type p.target suffix n) refl o.0 kind o.1))
-  operand_is_given kind (Read (Var x)) v o h = named_gives x kind v h.0 h.1
-  operand_is_given kind (Read (At e)) v o h = absurd h
-  operand_is_given kind (Read (Member place m)) v o h = absurd h
-  operand_is_given kind (Read (Element place e)) v o h = absurd h
-  operand_is_given kind (Address place) v o h = absurd h
-  operand_is_given kind (Unary op e) v o h = absurd h
-  operand_is_given kind (Binary op a b) v o h = absurd h
-  operand_is_given kind (Cast to e) v o h = absurd h
-  operand_is_given kind (Cond c a b) v o h = absurd h
+      subst (λ k. IsGiven p s kind (cast_to k (Number n suffix)) v) (sym (kind_at_width kind))
+      (subst (IsGiven p s kind (cast_to kind (Number n suffix))) h (some_of n suffix (constant_type p.target suffix n) refl o.0 kind o.1))
+  operand_is_given kind (Read place) v o h = h
+  operand_is_given kind (Address place) v o h = h
+  operand_is_given kind (Unary op e) v o h = h
+  operand_is_given kind (Binary op a b) v o h = h
+  operand_is_given kind (Cast to e) v o h = h
+  operand_is_given kind (Cond c a b) v o h = h

@@ -17,18 +17,18 @@ use Rattle.int_ops.specs.declared.Stop.TheVariants.{Overflow, DivZero, Shift}
 use Rattle.c_ast.specs.declared.Target.{Target}
 use Rattle.c_ast.specs.Syntax.{Expr}
 use Rattle.c_ast.specs.Targets.{table_of}
-use Rattle.c_meaning.specs.Values.{CValue}
+use Rattle.c_meaning.specs.Values.{Trouble, CValue}
 use Rattle.c_meaning.specs.Operators.{truth}
 use Rattle.c_meaning.specs.State.{Program, CState}
 use Rattle.c_meaning.specs.Expressions.{eval}
 use Rattle.overflow_checks.specs.Checks.{checks_at, is_among, up_to, is_check, checks_before}
-use Rattle.overflow_checks.specs.Contract.{IsOperand, OperandsStandFor, number_of, IsTestOf, IsGuard}
+use Rattle.overflow_checks.specs.Contract.{IsGiven, IsOperand, OperandsStandFor, IsTestOf, IsGuard}
 use Rattle.overflow_checks.specs.Parts.{operand_of, is_constant}
 use Rattle.overflow_checks.specs.UnsignedForms.{divisor_is_some, shift_fits}
 use Rattle.overflow_checks.specs.SignedForms.{opposite_fits, quotient_fits}
 use Rattle.overflow_checks.specs.Forms.{sum_guard, difference_guard, product_guard, is_turned, turned_guard, guard_for}
 use Rattle.overflow_checks.proofs.Tables.{CTable, table_of_target}
-use Rattle.overflow_checks.proofs.Given.{IsGiven, operand_is_given}
+use Rattle.overflow_checks.proofs.Given.{operand_is_given}
 use Rattle.overflow_checks.proofs.Rows.{AreGiven, Tests}
 use Rattle.overflow_checks.proofs.TruthRows.{divisor_tested}
 use Rattle.overflow_checks.proofs.UnsignedRows as unsigned
@@ -172,17 +172,17 @@ module _ (p : Program) (s : CState) (table : CTable (table_of p.target)) (kind :
 
 -- ---- the promise
 
-number_of_truth : (b : Bool) → (number_of (truth b) ≡ pos 0 → b ≡ false) × (b ≡ false → number_of (truth b) ≡ pos 0)
+number_of_truth : (b : Bool) → ((if b then pos 1 else pos 0) ≡ pos 0 → b ≡ false) × (b ≡ false → (if b then pos 1 else pos 0) ≡ pos 0)
 number_of_truth true = (λ e. cc, λ e. cc)
 number_of_truth false = (λ e. refl, λ e. refl)
 
-is_test : (o : Op) (kind : IntKind) (which : Stop) (x y : ℤ) (r : Result CValue Reason) (holds : Bool) → r ≡ Ok (truth holds) → StopsWhere which (exact o kind x y) holds → IsTestOf o kind which x y r
+is_test : (o : Op) (kind : IntKind) (which : Stop) (x y : ℤ) (r : Result CValue Trouble) (holds : Bool) → r ≡ Ok (truth holds) → StopsWhere which (exact o kind x y) holds → IsTestOf o kind which x y r
 is_test o kind which x y r holds e h =
     let n = number_of_truth holds in
     subst (IsTestOf o kind which x y) (sym e) ((λ z. h.stops (n.0 z)), (λ z. n.1 (h.stopped z)))
 
 guard_here : (p : Program) (s : CState) (o : Op) (kind : IntKind) (which : Stop) (a b : Expr) (x y : ℤ) → IsTrue (is_allowed o kind) → IsTrue (is_check o kind which)
-    → OperandsStandFor s o kind a b x y → All (λ earlier. exact o kind x y ≢ Err earlier) (checks_before o kind which)
+    → OperandsStandFor p s o kind a b x y → All (λ earlier. exact o kind x y ≢ Err earlier) (checks_before o kind which)
     → IsOperand p.target kind a → (IsTrue (is_binary o) → IsOperand p.target kind b)
     → IsTestOf o kind which x y (eval p (guard_for (table_of p.target).int_bits (width kind) (is_signed kind) o which a b) s)
 guard_here p s o kind which a b x y allowed check stands before left right =

@@ -9,7 +9,7 @@ use Rattle.c_meaning.specs.Operators.{truth}
 use Rattle.c_meaning.specs.State.{Program, CState}
 use Rattle.c_meaning.specs.Expressions.{eval}
 use Rattle.overflow_checks.proofs.Tables.{CTable}
-use Rattle.overflow_checks.proofs.Given.{IsGiven}
+use Rattle.overflow_checks.specs.Contract.{IsGiven}
 
 -- the operands of a binary operator, over a table of a target
 pub record AreGiven (p : Program) (s : CState) (kind : IntKind) (a b : Expr) (x y : ℤ) : Type 0 where

@@ -14,7 +14,7 @@ use Rattle.c_ast.specs.declared.CBinary.TheVariants.{Add, Sub, Mul, And, Xor, Lt
 use Rattle.c_ast.specs.Syntax.{Expr, Binary}
 use Rattle.c_ast.specs.Targets.{TargetTable, table_of, arith_bits, arith_signed, promoted, common_in, common_type}
 use Rattle.iv_words.specs.Bits.{modulo}
-use Rattle.c_meaning.specs.Values.{CValue, Num}
+use Rattle.c_meaning.specs.Values.{Trouble, CValue, Num}
 use Rattle.c_meaning.specs.Operators.{Operator, sum, difference, product, bits_of, bitwise, computed, truth, usual, binary}
 use Rattle.c_meaning.specs.State.{Program, CState}
 use Rattle.iv_words.proofs.Ranges.{powers_grow}
@@ -119,4 +119,4 @@ module _ (p : Program) (s : CState) (table : CTable (table_of p.target)) (bits :
         let e : int_lt (pos both) (pos half) ≡ nat_lt both half = refl in
         binary_gives p s Lt (Binary And a b) (unsigned half) (Num (Computed c) (pos both)) (Num (Computed u.type) (pos half)) (bitwise_gives And bit_and (λ u w. refl)) (constant_gives p s half U u.type u.found_it)
         ∙ compared_natural t table (Computed c) (Computed u.type) (pos both) (pos half) k int_lt
-        ∙ ap (λ test. let q : Result CValue Reason = Ok (truth test) in q) (e ∙ clear_test bits some (bits_of bits x) (bits_of bits y) (bits_under bits x) (bits_under bits y))
+        ∙ ap (λ test. let q : Result CValue Trouble = Ok (truth test) in q) (e ∙ clear_test bits some (bits_of bits x) (bits_of bits y) (bits_under bits x) (bits_under bits y))

@@ -16,9 +16,10 @@ use Rattle.c_ast.specs.Syntax.{Expr, Binary}
 use Rattle.c_ast.specs.Targets.{TargetTable, table_of, arith_bits, arith_signed, common_in, common_type}
 use Rattle.iv_words.specs.Bits.{modulo}
 use Rattle.c_ast.specs.Conversions.{can_hold, first_of_types, constant_type_in}
-use Rattle.c_meaning.specs.Values.{CValue, Num, typed}
+use Rattle.c_meaning.specs.Values.{Trouble, Undefined, CValue, Num, typed}
 use Rattle.c_meaning.specs.Operators.{sum, difference, product, quotient, fitted, shifted_right, computed}
 use Rattle.c_meaning.specs.State.{Program, CState}
+use Rattle.c_ast.specs.StaticTypes.{Arithmetic}
 use Rattle.c_meaning.specs.Expressions.{as_common}
 use Rattle.c_ast.proofs.Conversions.{held_stays}
 use Rattle.iv_words.proofs.Ranges.{powers_grow}
@@ -64,13 +65,13 @@ module _ (p : Program) (s : CState) (table : CTable (table_of p.target)) (bits :
       ∙ ap (λ d. computed d (difference (arith_bits t d) (arith_signed d) (pos 0) n)) common
       ∙ ap (λ m. computed c (difference m (arith_signed c) (pos 0) n)) alike.1
       ∙ ap (λ signed. computed c (difference bits signed (pos 0) n)) alike.0
-      ∙ ap (λ v. let q : Result CValue Reason = Ok (Num (Computed c) v) in q) (modulo_difference_right bits (pos 0) y)
+      ∙ ap (λ v. let q : Result CValue Trouble = Ok (Num (Computed c) v) in q) (modulo_difference_right bits (pos 0) y)
 
   -- an arm of `?:` in the type
-  pub arm_is : (r : Result CValue Reason) (kind : CKind) (v : ℤ) (n : ℕ) → n < 2 ^ bits → v ≡ pos n → r ≡ Ok (Num kind v) → as_common t (Some (Computed c)) r ≡ Ok (Num (Computed c) (pos n))
+  pub arm_is : (r : Result CValue Trouble) (kind : CKind) (v : ℤ) (n : ℕ) → n < 2 ^ bits → v ≡ pos n → r ≡ Ok (Num kind v) → as_common t (Some (Arithmetic (Computed c))) r ≡ Ok (Num (Computed c) (pos n))
   arm_is r kind v n l is e =
-      ap (as_common t (Some (Computed c))) e
-      ∙ ap (λ u. as_common t (Some (Computed c)) (Ok (Num kind u))) is
+      ap (as_common t (Some (Arithmetic (Computed c)))) e
+      ∙ ap (λ u. as_common t (Some (Arithmetic (Computed c))) (Ok (Num kind u))) is
       ∙ ap (typed (Computed c)) (held_stays (arith_bits t c) (arith_signed c) (pos n) (held n l))
 
   -- ---- products
@@ -119,8 +120,8 @@ module _ (p : Program) (s : CState) (table : CTable (table_of p.target)) (bits :
       let d = plain_typed t table k (omega arith) in
       let result = computed c (shifted_right (arith_bits t c) (arith_signed c) (pos n) (pos k)) in
       binary_gives p s Shr e (plain k) (Num (Computed c) (pos n)) (Num (Computed d.type) (pos k)) ge (constant_gives p s k Plain d.type d.found_it)
-      ∙ ap (λ b. let q : Result CValue Reason = if int_lt (pos k) (pos 0) || int_le (pos b) (pos k) then Err Shift else result in q) alike.1
-      ∙ ap (λ test. let q : Result CValue Reason = if test then Err Shift else result in q) not_too_far
+      ∙ ap (λ b. let q : Result CValue Trouble = if int_lt (pos k) (pos 0) || int_le (pos b) (pos k) then Err (Undefined Shift) else result in q) alike.1
+      ∙ ap (λ test. let q : Result CValue Trouble = if test then Err (Undefined Shift) else result in q) not_too_far
       ∙ ap (λ test. computed c (if test then Err Implementation else Ok (pos (n / 2 ^ k)))) (not_negative n)
 
   -- at most the greatest number of the signed kind, or one more

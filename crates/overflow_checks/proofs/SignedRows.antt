@@ -14,7 +14,7 @@ use Rattle.overflow_checks.specs.Parts.{cast_to}
 use Rattle.overflow_checks.specs.SignedForms.{is_between_ends, narrow_sum_fits, narrow_difference_fits, wide_sum_fits, wide_difference_fits, opposite_fits, quotient_fits}
 use Rattle.overflow_checks.specs.Forms.{sum_guard, difference_guard, product_guard, product_of}
 use Rattle.overflow_checks.proofs.Tables.{CTable}
-use Rattle.overflow_checks.proofs.Given.{IsGiven}
+use Rattle.overflow_checks.specs.Contract.{IsGiven}
 use Rattle.overflow_checks.proofs.Rows.{AreGiven, Tests, GivesNumber}
 use Rattle.iv_words.proofs.Widths.{width_least, width_most, range_of_sign}
 use Rattle.overflow_checks.proofs.SignedValues.{IsSigned, number_is, given_is, opposite_is, sum_is, difference_is, product_is, quotient_is, remainder_gives}

@@ -27,7 +27,8 @@ use Rattle.iv_words.proofs.Ranges.{powers_grow}
 use Rattle.c_ast.proofs.Promotions.{promotion_keeps, signed_common_keeps}
 use Rattle.overflow_checks.specs.Parts.{plain, greatest_constant, least_constant, cast_to}
 use Rattle.overflow_checks.proofs.Tables.{CTable, promoted_signed}
-use Rattle.overflow_checks.proofs.Given.{IsGiven, Gives, of_kind, binary_gives, unary_gives, cast_gives, constant_gives}
+use Rattle.overflow_checks.proofs.Given.{Gives, of_kind, binary_gives, unary_gives, cast_gives, constant_gives}
+use Rattle.overflow_checks.specs.Contract.{IsGiven}
 use Rattle.overflow_checks.proofs.Rows.{Tests, GivesNumber}
 use Rattle.overflow_checks.proofs.Alike.{fitted_held, AreSigned, common_is_signed, usual_signed, compared_signed}
 use Rattle.overflow_checks.proofs.Constants.{IsTyped, plain_typed}

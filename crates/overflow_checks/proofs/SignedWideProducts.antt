@@ -17,15 +17,17 @@ use Rattle.c_ast.specs.declared.CType.TheVariants.{Value}
 use Rattle.c_ast.specs.declared.CBinary.TheVariants.{Sub, Mul, Shr, Eq, Lt, Le, Xor}
 use Rattle.c_ast.specs.Syntax.{Expr, Binary}
 use Rattle.c_ast.specs.Targets.{TargetTable, table_of, common_in, common_type}
-use Rattle.c_meaning.specs.Values.{CValue, Num, is_true, on_ok}
+use Rattle.c_meaning.specs.Values.{Trouble, CValue, Num, is_true, on_ok}
 use Rattle.c_meaning.specs.Operators.{bits_of, truth}
 use Rattle.c_meaning.specs.State.{Program, CState}
-use Rattle.c_meaning.specs.Expressions.{binary_type, cast_type, of_both, type_of, scope_types, as_common, eval}
+use Rattle.c_ast.specs.StaticTypes.{ValueType, Arithmetic, of_binary, of_choice, of_cast, of_both}
+use Rattle.c_meaning.specs.Expressions.{static_type, as_common, eval}
 use Rattle.overflow_checks.specs.Parts.{plain}
 use Rattle.overflow_checks.specs.UnsignedForms.{does_not_wrap}
 use Rattle.overflow_checks.specs.SignedForms.{unsigned_of, differing, magnitude, product_limit, nonzero_product_fits, wide_signed_product_fits}
 use Rattle.overflow_checks.proofs.Tables.{CTable, common_with_itself}
-use Rattle.overflow_checks.proofs.Given.{IsGiven, of_kind}
+use Rattle.overflow_checks.proofs.Given.{of_kind}
+use Rattle.overflow_checks.specs.Contract.{IsGiven}
 use Rattle.overflow_checks.proofs.Rows.{Tests}
 use Rattle.overflow_checks.proofs.Choices.{or_else_tests, and_also_tests}
 use Rattle.iv_words.proofs.Widths.{width_least, width_most, range_of_sign}
@@ -79,29 +81,41 @@ module _ (p : Program) (s : CState) (table : CTable (table_of p.target)) (kind :
     abbrev opposite : Expr
     opposite = Binary Sub (plain 0) (unsigned_of w a)
 
-    abbrev Typed : Expr → CKind → Type 0
-    Typed e k = type_of t (scope_types s) e ≡ Some k
+    abbrev type_of : Expr → Option ValueType
+    type_of e = static_type p s e
 
-    abbrev in_common : CKind → CKind → CKind
-    in_common k l = Computed (common_type t k l)
+    abbrev Typed : Expr → CKind → Type 0
+    Typed e k = type_of e ≡ Some (Arithmetic k)
+
+    abbrev constant_of : Option Arith → Option ValueType
+    constant_of found = option_map (λ a. Arithmetic (Computed a)) found
 
     abbrev zero_and : Arith
     zero_and = common_type t (Computed Int) (of_kind u)
 
     unsigned_typed_as : Typed as_unsigned (of_kind u)
-    unsigned_typed_as = ap (λ o. let q : Option CKind = option_and_then (λ k. cast_type (Value (Exact u))) o in q) given.type
+    unsigned_typed_as = ap (λ o. option_and_then (of_cast (Value (Exact u))) o) given.type
 
     opposite_typed : Typed opposite (Computed zero_and)
     opposite_typed =
-        ap (λ o. of_both (binary_type t Sub) (option_map Computed o) (type_of t (scope_types s) as_unsigned)) (zero_type t)
-        ∙ ap (λ o. of_both (binary_type t Sub) (Some (Computed Int)) o) unsigned_typed_as
+        ap (λ o. of_both (of_binary t Sub) (constant_of o) (type_of as_unsigned)) (zero_type t)
+        ∙ ap (λ o. of_both (of_binary t Sub) (Some (Arithmetic (Computed Int))) o) unsigned_typed_as
+
+    test_typed : Typed (Binary Lt a (plain 0)) (Computed Int)
+    test_typed =
+        ap (λ o. of_both (of_binary t Lt) o (type_of (plain 0))) given.type
+        ∙ ap (λ o. of_both (of_binary t Lt) (Some (Arithmetic (of_kind kind))) (constant_of o)) (zero_type t)
+
+    abbrev arms_type : Option ValueType → Option ValueType → Option ValueType
+    arms_type = of_both (of_choice t (Arithmetic (Computed Int)))
 
     magnitude_typed : Typed (magnitude w a) (Computed c)
     magnitude_typed =
-        ap (λ o. of_both in_common o (type_of t (scope_types s) as_unsigned)) opposite_typed
-        ∙ ap (λ o. of_both in_common (Some (Computed zero_and)) o) unsigned_typed_as
-        ∙ ap (λ d. let q : Option CKind = Some (Computed (common_in t d c)) in q) (int_with_unsigned t c same.0)
-        ∙ ap (λ d. let q : Option CKind = Some (Computed d) in q) (common_with_itself t c)
+        ap (λ o. option_and_then (λ test. of_both (of_choice t test) (type_of opposite) (type_of as_unsigned)) o) test_typed
+        ∙ ap (λ o. arms_type o (type_of as_unsigned)) opposite_typed
+        ∙ ap (λ o. arms_type (Some (Arithmetic (Computed zero_and))) o) unsigned_typed_as
+        ∙ ap (λ d. let q : Option ValueType = Some (Arithmetic (Computed (common_in t d c))) in q) (int_with_unsigned t c same.0)
+        ∙ ap (λ d. let q : Option ValueType = Some (Arithmetic (Computed d)) in q) (common_with_itself t c)
 
     abbrev distance : ℕ
     distance = unsigned_abs x
@@ -112,7 +126,7 @@ module _ (p : Program) (s : CState) (table : CTable (table_of p.target)) (kind :
     below_all : unsigned_abs x < 2 ^ width kind
     below_all = distance_below w x (some_bits kind) is_in
 
-    arms : (test : Bool) → int_lt x (pos 0) ≡ test → as_common t (Some (Computed c)) (if is_true (truth test) then eval p opposite s else eval p as_unsigned s) ≡ Ok (Num (Computed c) (pos distance))
+    arms : (test : Bool) → int_lt x (pos 0) ≡ test → as_common t (Some (Arithmetic (Computed c))) (if is_true (truth test) then eval p opposite s else eval p as_unsigned s) ≡ Ok (Num (Computed c) (pos distance))
     arms true e =
         arm_is p s table w c same (some_bits kind) (width_most kind) (eval p opposite s) (Computed c) _ distance below_all (opposite_distance w x (some_bits kind) is_in e)
         (opposite_gives p s table w c same (some_bits kind) (width_most kind) as_unsigned x (cast_modulo p s kind table wide a x given))
@@ -122,7 +136,7 @@ module _ (p : Program) (s : CState) (table : CTable (table_of p.target)) (kind :
 
     magnitude_gives : Natural (magnitude w a) distance
     magnitude_gives =
-        ap (λ r. let q : Result CValue Reason = on_ok r (λ v. as_common t (type_of t (scope_types s) (magnitude w a)) (if is_true v then eval p opposite s else eval p as_unsigned s)) in q) (sign_tests a x given)
+        ap (λ r. let q : Result CValue Trouble = on_ok r (λ v. as_common t (type_of (magnitude w a)) (if is_true v then eval p opposite s else eval p as_unsigned s)) in q) (sign_tests a x given)
         ∙ ap (λ k. as_common t k (if is_true (truth (int_lt x (pos 0))) then eval p opposite s else eval p as_unsigned s)) magnitude_typed
         ∙ arms (int_lt x (pos 0)) refl
 

@@ -14,7 +14,8 @@ use Rattle.c_meaning.specs.Operators.{bits_of}
 use Rattle.c_meaning.specs.State.{Program, CState}
 use Rattle.overflow_checks.specs.SignedForms.{unsigned_of, differing, top_is_clear, wide_sum_fits, wide_difference_fits}
 use Rattle.overflow_checks.proofs.Tables.{CTable}
-use Rattle.overflow_checks.proofs.Given.{IsGiven, of_kind, cast_gives}
+use Rattle.overflow_checks.proofs.Given.{of_kind, cast_gives}
+use Rattle.overflow_checks.specs.Contract.{IsGiven}
 use Rattle.overflow_checks.proofs.Rows.{AreGiven, Tests}
 use Rattle.iv_words.proofs.Widths.{width_least, width_most, range_of_sign}
 use Rattle.overflow_checks.proofs.SignedTypes.{IsAlike, promoted_alike}

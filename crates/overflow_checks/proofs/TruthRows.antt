@@ -16,7 +16,8 @@ use Rattle.c_meaning.specs.State.{Program, CState}
 use Rattle.overflow_checks.specs.Parts.{plain}
 use Rattle.overflow_checks.specs.UnsignedForms.{divisor_is_some}
 use Rattle.overflow_checks.proofs.Tables.{CTable, promoted_signed}
-use Rattle.overflow_checks.proofs.Given.{IsGiven, of_kind, binary_gives, constant_gives}
+use Rattle.overflow_checks.proofs.Given.{of_kind, binary_gives, constant_gives}
+use Rattle.overflow_checks.specs.Contract.{IsGiven}
 use Rattle.overflow_checks.proofs.Rows.{AreGiven, Tests}
 use Rattle.overflow_checks.proofs.Alike.{compared_alike, AreSigned, compared_signed}
 use Rattle.overflow_checks.proofs.Constants.{plain_typed}

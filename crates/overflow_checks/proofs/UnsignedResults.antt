@@ -19,7 +19,7 @@ use Rattle.c_ast.specs.declared.CBinary.{CBinary}
 use Rattle.c_ast.specs.declared.CBinary.TheVariants.{Add, Sub, Mul, Div, Rem, And, Or, Xor, Shl, Shr}
 use Rattle.c_ast.specs.Syntax.{Expr, Unary, Binary}
 use Rattle.c_ast.specs.Targets.{TargetTable, table_of, arith_bits, arith_signed, promoted}
-use Rattle.c_meaning.specs.Values.{CValue, Num, on_ok}
+use Rattle.c_meaning.specs.Values.{Trouble, Undefined, CValue, Num, on_ok}
 use Rattle.iv_words.specs.Bits.{modulo, two_to}
 use Rattle.c_meaning.specs.Operators.{Operator, fitted, sum, difference, product, quotient, remainder, bits_of, number_of_bits, bitwise, shifted_left, shifted_right, flipped, computed, usual, binary}
 use Rattle.c_meaning.specs.State.{Program, CState}
@@ -30,7 +30,8 @@ use Rattle.c_ast.proofs.Promotions.{promotion_keeps}
 use Rattle.overflow_checks.specs.Parts.{cast_to, double_product}
 use Rattle.overflow_checks.specs.Forms.{product_of}
 use Rattle.overflow_checks.proofs.Tables.{CTable, IsWideOrSame, wide, same, promoted_unsigned}
-use Rattle.overflow_checks.proofs.Given.{Gives, IsGiven, of_kind, binary_gives, unary_gives}
+use Rattle.overflow_checks.proofs.Given.{Gives, of_kind, binary_gives, unary_gives}
+use Rattle.overflow_checks.specs.Contract.{IsGiven}
 use Rattle.overflow_checks.proofs.Rows.{AreGiven}
 use Rattle.iv_words.proofs.Widths.{width_least, range_of_sign, IsDouble, doubled, in_double}
 use Rattle.overflow_checks.proofs.DoubleProducts.{product_gives}
@@ -232,10 +233,10 @@ module _ (p : Program) (s : CState) (kind : IntKind) (unsigned_one : is_signed k
     amount : (int_lt y (pos 0) || int_le (pos (arith_bits t c)) y) ≡ false
     amount = amount_is_right w (arith_bits t c) y (has_width t w c type_is (let l = two in omega arith)).0 y_from short
 
-    shift_gives : (op : CBinary) (r : Result ℤ Reason) → binary t op (Num k x) (Ok (Num k y)) ≡ (if int_lt y (pos 0) || int_le (pos (arith_bits t c)) y then Err Shift else computed c r) → eval p (Binary op a b) s ≡ computed c r
+    shift_gives : (op : CBinary) (r : Result ℤ Reason) → binary t op (Num k x) (Ok (Num k y)) ≡ (if int_lt y (pos 0) || int_le (pos (arith_bits t c)) y then Err (Undefined Shift) else computed c r) → eval p (Binary op a b) s ≡ computed c r
     shift_gives op r is =
         binary_gives p s op a b (Num k x) (Num k y) given.left.gives given.right.gives ∙ is
-        ∙ ap (λ test. let q : Result CValue Reason = if test then Err Shift else computed c r in q) amount
+        ∙ ap (λ test. let q : Result CValue Trouble = if test then Err (Undefined Shift) else computed c r in q) amount
 
     pub left_shift_gives : GivesModulo p s w (Binary Shl a b) (x *ℤ two_to y)
     left_shift_gives =

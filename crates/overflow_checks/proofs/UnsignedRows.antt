@@ -26,7 +26,8 @@ use Rattle.overflow_checks.specs.Parts.{plain, greatest_constant, cast_to, doubl
 use Rattle.overflow_checks.specs.UnsignedForms.{sum_fits, difference_fits, narrow_product_fits, does_not_wrap, wide_product_fits, divisor_is_some, shift_fits}
 use Rattle.overflow_checks.specs.Forms.{product_guard}
 use Rattle.overflow_checks.proofs.Tables.{CTable, IsWideOrSame, wide, same, promoted_unsigned}
-use Rattle.overflow_checks.proofs.Given.{Gives, IsGiven, of_kind, binary_gives, cast_gives, constant_gives}
+use Rattle.overflow_checks.proofs.Given.{Gives, of_kind, binary_gives, cast_gives, constant_gives}
+use Rattle.overflow_checks.specs.Contract.{IsGiven}
 use Rattle.overflow_checks.proofs.Rows.{AreGiven, Tests}
 use Rattle.overflow_checks.proofs.Choices.{or_else_tests}
 use Rattle.iv_words.proofs.Widths.{width_least, width_most, kind_of_sign, range_of_sign, in_range_by_sign, IsDouble, doubled, in_double}

@@ -52,14 +52,26 @@ wide_difference_fits bits a b =
 abbrev pub narrow_signed_product_fits : ℕ → Expr → Expr → Expr
 narrow_signed_product_fits bits a b = is_between_ends bits (double_product bits true a b)
 
+abbrev pub is_negative : Expr → Expr
+is_negative e = Binary Lt e (plain 0)
+
+abbrev pub opposite : ℕ → Expr → Expr
+opposite bits e = Binary Sub (plain 0) (unsigned_of bits e)
+
 -- how far a number is from 0
 abbrev pub magnitude : ℕ → Expr → Expr
-magnitude bits e = Cond (Binary Lt e (plain 0)) (Binary Sub (plain 0) (unsigned_of bits e)) (unsigned_of bits e)
+magnitude bits e = Cond (is_negative e) (opposite bits e) (unsigned_of bits e)
+
+abbrev pub unsigned_differing : ℕ → Expr → Expr → Expr
+unsigned_differing bits a b = differing (unsigned_of bits a) (unsigned_of bits b)
+
+-- 1 where the signs differ, and else 0
+abbrev pub one_if_differing : ℕ → Expr → Expr → Expr
+one_if_differing bits a b = Binary Shr (unsigned_differing bits a b) (plain (bits - 1))
 
 -- the greatest magnitude of a product: one more where the signs differ
 abbrev pub product_limit : ℕ → Expr → Expr → Expr
-product_limit bits a b =
-    Binary Add (unsigned (2 ^ (bits - 1) - 1)) (Binary Shr (differing (unsigned_of bits a) (unsigned_of bits b)) (plain (bits - 1)))
+product_limit bits a b = Binary Add (unsigned (2 ^ (bits - 1) - 1)) (one_if_differing bits a b)
 
 -- the product of two magnitudes, the second not 0, does not wrap, and is at most the limit
 abbrev pub magnitudes_fit : ℕ → (m n limit : Expr) → Expr
@@ -77,5 +89,8 @@ wide_signed_product_fits bits a b = Binary OrElse (Binary Eq b (plain 0)) (nonze
 abbrev pub opposite_fits : ℕ → Expr → Expr
 opposite_fits bits a = Binary Ge a (Unary Neg (greatest_constant bits true))
 
+abbrev pub is_not_minus_one : Expr → Expr
+is_not_minus_one b = Binary Ne b (Unary Neg (plain 1))
+
 abbrev pub quotient_fits : ℕ → Expr → Expr → Expr
-quotient_fits bits a b = Binary OrElse (Binary Ne b (Unary Neg (plain 1))) (opposite_fits bits a)
+quotient_fits bits a b = Binary OrElse (is_not_minus_one b) (opposite_fits bits a)

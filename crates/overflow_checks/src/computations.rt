@@ -4,7 +4,7 @@ ghost use Rattle.std.specs.Prelude.{◌≡◌, IsTrue, IfOk};
 ghost use Rattle.iv_words.specs.Kinds.{width, is_signed};
 ghost use Rattle.int_ops.specs.Operators.{IsKindWidth, is_allowed, is_binary};
 ghost use Rattle.c_ast.specs.View.{expr_of};
-ghost use Rattle.overflow_checks.specs.Contract.{IsOperand, IsComputation, IsMadeOf, computation_levels};
+ghost use Rattle.overflow_checks.specs.Contract.{IsOperand, IsComputation, IsOperandOf, IsMadeOf, computation_levels};
 ghost use Rattle.overflow_checks.specs.Forms as forms;
 
 use crate::build::{binary, unary};
@@ -91,7 +91,7 @@ pub fn compute(
     requires left { IsOperand t kind (expr_of a) }
     requires right { IsTrue (is_binary op) → IsOperand t kind (expr_of b) }
     ensures exact { IfOk result (λ e. IsComputation t op kind (expr_of a) (expr_of b) (expr_of e)) }
-    ensures parts { IfOk result (λ e. IsMadeOf t (expr_of a) (expr_of b) (expr_of e) computation_levels) }
+    ensures parts { IfOk result (λ e. IsMadeOf t (IsOperandOf op (expr_of a) (expr_of b)) (expr_of e) computation_levels) }
 {
     let _ = t;
     computation_of_kind(alloc, op, kind, a, b)

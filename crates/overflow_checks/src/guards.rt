@@ -6,7 +6,7 @@ ghost use Rattle.int_ops.specs.Operators.{IsKindWidth, is_allowed, is_binary};
 ghost use Rattle.c_ast.specs.Targets.{table_of};
 ghost use Rattle.c_ast.specs.View.{expr_of};
 ghost use Rattle.overflow_checks.specs.Checks.{is_check};
-ghost use Rattle.overflow_checks.specs.Contract.{IsOperand, IsGuard, IsMadeOf, guard_levels};
+ghost use Rattle.overflow_checks.specs.Contract.{IsOperand, IsGuard, IsOperandOf, IsMadeOf, guard_levels};
 ghost use Rattle.overflow_checks.specs.Forms as forms;
 
 use crate::build::plain;
@@ -166,8 +166,8 @@ fn guard_of_kind(
 }
 
 /// The guard of a check: an expression that has a value for all numbers where no earlier check of the operator fails, and
-/// is 0 exactly where `int_ops::apply` answers `which`. An operand is a constant of the kind, or a name that holds a number
-/// of it; a prefix operator leaves `b` aside.
+/// is 0 exactly where `int_ops::apply` answers `which`. An operand is a constant of the kind, or an expression that evaluates
+/// to a number of it as a value of its type; a prefix operator leaves `b` aside.
 ///
 /// Errors: want of memory.
 pub fn guard(
@@ -184,7 +184,7 @@ pub fn guard(
     requires left { IsOperand t kind (expr_of a) }
     requires right { IsTrue (is_binary op) → IsOperand t kind (expr_of b) }
     ensures exact { IfOk result (λ e. IsGuard t op kind which (expr_of a) (expr_of b) (expr_of e)) }
-    ensures parts { IfOk result (λ e. IsMadeOf t (expr_of a) (expr_of b) (expr_of e) guard_levels) }
+    ensures parts { IfOk result (λ e. IsMadeOf t (IsOperandOf op (expr_of a) (expr_of b)) (expr_of e) guard_levels) }
 {
     guard_of_kind(alloc, t, op, kind, which, a, b)
 }

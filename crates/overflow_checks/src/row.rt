@@ -3,6 +3,7 @@
 ghost use Rattle.std.specs.Prelude.{◌≡◌, ◌*◌, true, IfOk};
 ghost use Rattle.c_ast.specs.View.{expr_of};
 ghost use Rattle.int_ops.specs.Operators.{IsKindWidth};
+ghost use Rattle.iv_words.specs.Kinds.{kind_at};
 ghost use Rattle.overflow_checks.specs.Parts as parts;
 
 use crate::build::{binary, cast, plain, unary, unsigned};
@@ -13,7 +14,7 @@ use std::alloc::Global;
 
 /// The kind of so many bits.
 fn kind_of(bits: u32, signed: bool) -> IntKind
-    ensures { result ≡ parts.kind_at bits signed }
+    ensures { result ≡ kind_at bits signed }
 {
     match bits {
         8 => if signed { IntKind::I8 } else { IntKind::U8 },
@@ -53,14 +54,14 @@ pub struct Row<const BITS: u32, const SIGNED: bool>;
 
 impl<const BITS: u32, const SIGNED: bool> Row<BITS, SIGNED> {
     pub fn kind() -> IntKind
-        ensures { result ≡ parts.kind_at BITS SIGNED }
+        ensures { result ≡ kind_at BITS SIGNED }
     {
         kind_of(BITS, SIGNED)
     }
 
     pub fn double_kind() -> IntKind
         requires { IsKindWidth BITS }
-        ensures { result ≡ parts.kind_at (2 * BITS) SIGNED }
+        ensures { result ≡ kind_at (2 * BITS) SIGNED }
     {
         kind_of(2 * BITS, SIGNED)
     }

@@ -4,6 +4,7 @@ ghost use Rattle.std.specs.Prelude.{◌≡◌, ◌-◌, ◌^◌, ℕ, IfOk};
 ghost use Rattle.c_ast.specs.Syntax as syntax;
 ghost use Rattle.c_ast.specs.View.{expr_of};
 ghost use Rattle.int_ops.specs.Operators.{IsKindWidth};
+ghost use Rattle.overflow_checks.specs.Parts as parts;
 ghost use Rattle.overflow_checks.specs.SignedForms as forms;
 
 use crate::build::{binary, cast, choice, plain, unary, unsigned};
@@ -11,6 +12,21 @@ use crate::row::Row;
 use c_ast::{CBinary, CExpr, CUnary};
 use iv_words::Memory;
 use std::alloc::Global;
+
+/// A number below 0.
+fn is_negative(alloc: Global, e: &CExpr) -> Result<CExpr, Memory>
+    ensures { IfOk result (λ r. expr_of r ≡ forms.is_negative (expr_of e.now)) }
+{
+    binary(alloc, CBinary::Lt, e.copy(alloc)?, plain(0))
+}
+
+/// A number other than -1.
+fn is_not_minus_one(alloc: Global, e: &CExpr) -> Result<CExpr, Memory>
+    ensures { IfOk result (λ r. expr_of r ≡ forms.is_not_minus_one (expr_of e.now)) }
+{
+    let minus_one = unary(alloc, CUnary::Neg, plain(1))?;
+    binary(alloc, CBinary::Ne, e.copy(alloc)?, minus_one)
+}
 
 impl<const BITS: u32, const SIGNED: bool> Row<BITS, SIGNED> {
     /// 2 to the power `BITS - 1`.
@@ -107,13 +123,45 @@ impl<const BITS: u32, const SIGNED: bool> Row<BITS, SIGNED> {
         Self::is_between_ends(alloc, &product)
     }
 
+    /// The opposite of the operand, as a number of the unsigned kind.
+    fn opposite(alloc: Global, e: &CExpr) -> Result<CExpr, Memory>
+        ensures { IfOk result (λ r. expr_of r ≡ forms.opposite BITS (expr_of e.now)) }
+    {
+        binary(alloc, CBinary::Sub, plain(0), Self::unsigned_of(alloc, e)?)
+    }
+
     /// How far the operand is from 0.
     fn magnitude(alloc: Global, e: &CExpr) -> Result<CExpr, Memory>
         ensures { IfOk result (λ r. expr_of r ≡ forms.magnitude BITS (expr_of e.now)) }
     {
-        let is_negative = binary(alloc, CBinary::Lt, e.copy(alloc)?, plain(0))?;
-        let opposite = binary(alloc, CBinary::Sub, plain(0), Self::unsigned_of(alloc, e)?)?;
-        choice(alloc, is_negative, opposite, Self::unsigned_of(alloc, e)?)
+        let test = is_negative(alloc, e)?;
+        let opposite = Self::opposite(alloc, e)?;
+        choice(alloc, test, opposite, Self::unsigned_of(alloc, e)?)
+    }
+
+    /// The bits in which the operands differ.
+    fn unsigned_differing(alloc: Global, a: &CExpr, b: &CExpr) -> Result<CExpr, Memory>
+        ensures { IfOk result (λ e. expr_of e ≡ forms.unsigned_differing BITS (expr_of a.now) (expr_of b.now)) }
+    {
+        let x = Self::unsigned_of(alloc, a)?;
+        binary(alloc, CBinary::Xor, x, Self::unsigned_of(alloc, b)?)
+    }
+
+    /// 1 where the signs differ.
+    fn one_if_differing(alloc: Global, a: &CExpr, b: &CExpr) -> Result<CExpr, Memory>
+        requires { IsKindWidth BITS }
+        ensures { IfOk result (λ e. expr_of e ≡ forms.one_if_differing BITS (expr_of a.now) (expr_of b.now)) }
+    {
+        let differing = Self::unsigned_differing(alloc, a, b)?;
+        binary(alloc, CBinary::Shr, differing, plain(u64::from(BITS - 1)))
+    }
+
+    /// One less than the top.
+    fn below_top() -> CExpr
+        requires { IsKindWidth BITS }
+        ensures { expr_of result ≡ parts.unsigned (2 ^ (BITS - 1) - 1) }
+    {
+        unsigned(Self::top() - 1)
     }
 
     /// The greatest magnitude of a product.
@@ -121,17 +169,8 @@ impl<const BITS: u32, const SIGNED: bool> Row<BITS, SIGNED> {
         requires { IsKindWidth BITS }
         ensures { IfOk result (λ e. expr_of e ≡ forms.product_limit BITS (expr_of a.now) (expr_of b.now)) }
     {
-        let x = Self::unsigned_of(alloc, a)?;
-        let y = Self::unsigned_of(alloc, b)?;
-        let differing = Self::xor(alloc, &x, &y)?;
-        let top = plain(u64::from(BITS - 1));
-        let one_if_differing = binary(alloc, CBinary::Shr, differing, top)?;
-        binary(
-            alloc,
-            CBinary::Add,
-            unsigned(Self::top() - 1),
-            one_if_differing,
-        )
+        let one_more = Self::one_if_differing(alloc, a, b)?;
+        binary(alloc, CBinary::Add, Self::below_top(), one_more)
     }
 
     /// The product of two magnitudes that is at most the limit.
@@ -186,8 +225,7 @@ impl<const BITS: u32, const SIGNED: bool> Row<BITS, SIGNED> {
         requires { IsKindWidth BITS }
         ensures { IfOk result (λ e. expr_of e ≡ forms.quotient_fits BITS (expr_of a.now) (expr_of b.now)) }
     {
-        let minus_one = unary(alloc, CUnary::Neg, plain(1))?;
-        let is_other = binary(alloc, CBinary::Ne, b.copy(alloc)?, minus_one)?;
+        let is_other = is_not_minus_one(alloc, b)?;
         binary(
             alloc,
             CBinary::OrElse,

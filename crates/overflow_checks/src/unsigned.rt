@@ -26,12 +26,18 @@ pub fn divisor_is_some(alloc: Global, b: &CExpr) -> Result<CExpr, Memory>
 }
 
 impl<const BITS: u32, const SIGNED: bool> Row<BITS, SIGNED> {
+    fn wrapped_sum(alloc: Global, a: &CExpr, b: &CExpr) -> Result<CExpr, Memory>
+        ensures { IfOk result (λ e. expr_of e ≡ forms.wrapped_sum BITS (expr_of a.now) (expr_of b.now)) }
+    {
+        let sum = binary(alloc, CBinary::Add, a.copy(alloc)?, b.copy(alloc)?)?;
+        cast(alloc, Row::<BITS, false>::kind(), sum)
+    }
+
     /// A sum that has not wrapped.
     pub fn sum_fits(alloc: Global, a: &CExpr, b: &CExpr) -> Result<CExpr, Memory>
         ensures { IfOk result (λ e. expr_of e ≡ forms.sum_fits BITS (expr_of a.now) (expr_of b.now)) }
     {
-        let sum = binary(alloc, CBinary::Add, a.copy(alloc)?, b.copy(alloc)?)?;
-        let sum = cast(alloc, Row::<BITS, false>::kind(), sum)?;
+        let sum = Self::wrapped_sum(alloc, a, b)?;
         binary(alloc, CBinary::Ge, sum, a.copy(alloc)?)
     }
 
@@ -44,13 +50,21 @@ impl<const BITS: u32, const SIGNED: bool> Row<BITS, SIGNED> {
         binary(alloc, CBinary::Le, product, Row::<BITS, false>::greatest())
     }
 
+    /// The greatest number whose product with another number than 0 does not wrap.
+    fn greatest_factor(alloc: Global, b: &CExpr) -> Result<CExpr, Memory>
+        requires { IsKindWidth BITS }
+        ensures { IfOk result (λ e. expr_of e ≡ forms.greatest_factor BITS (expr_of b.now)) }
+    {
+        let greatest = Row::<BITS, false>::greatest();
+        binary(alloc, CBinary::Div, greatest, b.copy(alloc)?)
+    }
+
     /// A product with another number than 0 that does not wrap.
     pub fn does_not_wrap(alloc: Global, a: &CExpr, b: &CExpr) -> Result<CExpr, Memory>
         requires { IsKindWidth BITS }
         ensures { IfOk result (λ e. expr_of e ≡ forms.does_not_wrap BITS (expr_of a.now) (expr_of b.now)) }
     {
-        let greatest = Row::<BITS, false>::greatest();
-        let most = binary(alloc, CBinary::Div, greatest, b.copy(alloc)?)?;
+        let most = Self::greatest_factor(alloc, b)?;
         binary(alloc, CBinary::Le, a.copy(alloc)?, most)
     }
 

@@ -27,3 +27,5 @@ within_the_outer h = omega (arith, h.2)
 
 pub not_empty : NotEmpty
 not_empty h = omega (arith, h.0)
+
+pub ruleset forms = (sum_is_formed, operators_stand_between, no_overlap, within_the_outer, not_empty)

@@ -125,3 +125,5 @@ stmt_place s =
 
 pub block_place : (b : Block) → block_span (block_of b) ≡ (out-Block b).span
 block_place b = ap block_span (fold_out-Block (Span → StmtSyntax) BlockSyntax StmtSyntax stmt_step (λ b. syntax.Braces b.span (stmts_from b.stmts)) (λ s. s.kind s.span) b)
+
+pub ruleset places = (type_place, area_place, expr_place, stmt_place, block_place)

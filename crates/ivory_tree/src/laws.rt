@@ -1,8 +1,8 @@
 ghost use Rattle.ivory_tree.specs.Laws.{TypesStay, AreasStay, ExprsStay, StmtsStay, BlocksStay};
-ghost use Rattle.ivory_tree.specs.Examples.{SumNests, SumHasFiveNodes, SumIsFormed, PartNests, PartHasFourNodes, PartHasTwoNames, LogicIsTwoDeep, LogicIsOneDeep, ChainsHaveLinks, PostfixesHaveSteps, OperatorsStandBetween, NoStoredReferences, NoOverlap, WithinTheOuter, NotEmpty};
+ghost use Rattle.ivory_tree.specs.Examples as example;
 
 /// A tree stands in the abstract syntax at its own place.
-#[tactic(auto, using(crate::proofs::Places::type_place, crate::proofs::Places::area_place, crate::proofs::Places::expr_place, crate::proofs::Places::stmt_place, crate::proofs::Places::block_place))]
+#[tactic(auto, using(crate::proofs::Places::places))]
 pub fn place_laws()
     ensures types { TypesStay }
     ensures areas { AreasStay }
@@ -13,28 +13,28 @@ pub fn place_laws()
 
 /// Each prefix of a chain or postfix is a node of its own.
 pub fn prefix_examples()
-    ensures chain { SumNests }
-    ensures chain_nodes { SumHasFiveNodes }
-    ensures postfix { PartNests }
-    ensures postfix_nodes { PartHasFourNodes }
+    ensures chain { example.SumNests }
+    ensures chain_nodes { example.SumHasFiveNodes }
+    ensures postfix { example.PartNests }
+    ensures postfix_nodes { example.PartHasFourNodes }
 {}
 
 /// Which names are in a tree, and how deep it is.
 pub fn text_examples()
-    ensures names { PartHasTwoNames }
-    ensures deep { LogicIsTwoDeep }
-    ensures flat { LogicIsOneDeep }
+    ensures names { example.PartHasTwoNames }
+    ensures deep { example.LogicIsTwoDeep }
+    ensures flat { example.LogicIsOneDeep }
 {}
 
 /// Which trees have the form of one that a text spells.
-#[tactic(auto, using(crate::proofs::Examples::sum_is_formed, crate::proofs::Examples::operators_stand_between, crate::proofs::Examples::no_overlap, crate::proofs::Examples::within_the_outer, crate::proofs::Examples::not_empty))]
+#[tactic(auto, using(crate::proofs::Examples::forms))]
 pub fn form_examples()
-    ensures chain { SumIsFormed }
-    ensures links { ChainsHaveLinks }
-    ensures steps { PostfixesHaveSteps }
-    ensures between { OperatorsStandBetween }
-    ensures stored { NoStoredReferences }
-    ensures apart { NoOverlap }
-    ensures within { WithinTheOuter }
-    ensures some { NotEmpty }
+    ensures chain { example.SumIsFormed }
+    ensures links { example.ChainsHaveLinks }
+    ensures steps { example.PostfixesHaveSteps }
+    ensures between { example.OperatorsStandBetween }
+    ensures stored { example.NoStoredReferences }
+    ensures apart { example.NoOverlap }
+    ensures within { example.WithinTheOuter }
+    ensures some { example.NotEmpty }
 {}

@@ -1,4 +1,4 @@
--- The productions of items and modules, put together from languages: they spell what the relations say.
+-- The productions of items and modules, placed_spelled together from languages: they spell what the relations say.
 use Rattle.std.proofs.Common.{ℕ, suc, Bool, List, ◌++◌, inl, inr, refl, sym, ap, ◌∙◌, Option, is_some}
 use Rattle.iv_words.specs.declared.Span.{Span}
 use Rattle.ivory_lexer.specs.declared.Token.{Token}
@@ -22,7 +22,7 @@ use Rattle.module_grammar.specs.Parts as parts
 use Rattle.module_grammar.specs.Items.{Rule}
 use Rattle.module_grammar.specs.Items as items
 use Rattle.module_grammar.specs.Modules as modules
-use Rattle.module_grammar.proofs.Placed.{Placed, put}
+use Rattle.module_grammar.proofs.Placed.{Placed, placed_spelled}
 use Rattle.module_grammar.proofs.Edges.{two_before}
 use Rattle.module_grammar.proofs.StatementRules.{Listed, Semicolon}
 use Rattle.module_grammar.proofs.PartRules.{Declared}
@@ -37,7 +37,7 @@ HeaderOf d = Placed (Then (Terminal d name_of) (λ name. Then (Listed d (parts.R
 
 pub to_header : (d : ℕ) (v : Header) (row : Row Token) → HeaderOf d v row → Rule items.header d v row
 to_header d v row (make, (name, e, r, e1, t, (params, m, h, e2, (p, (at, f, g, e3, o, c), params_are), (result, rr, make_is))), is) =
-    put (Rule items.header d) is (make_is ∙ ap (λ x. tree.header name x result) params_are) (e1 ∙ ap (λ y. e ++ y) (e2 ∙ two_before m f g h e3)) (items.signature result h t o c rr)
+    placed_spelled (Rule items.header d) is (make_is ∙ ap (λ x. tree.header name x result) params_are) (e1 ∙ ap (λ y. e ++ y) (e2 ∙ two_before m f g h e3)) (items.signature result h t o c rr)
 
 pub from_header : (d : ℕ) (v : Header) (row : Row Token) → Rule items.header d v row → HeaderOf d v row
 from_header d v row (items.signature {name} {at} {to} {params} result h {e} {f} {g} t o c rr) =
@@ -74,20 +74,20 @@ ItemOf d = Headed (Form d) (Procedure d)
 
 to_form : (d : ℕ) (h : ItemForm) (v : Item) (row : Row Token) → Form d h v row → Rule items.item d v row
 to_form d head.Bits v row (make, (at, e, r, e1, t, (name, f, r2, e2, n, (colon, g, r3, e3, c, (word, h, r4, e4, w, (fields, (open_, i, r5, e5, o, (xs, j, k, e6, some, (to, u, fields_are))), make_is))))), is) =
-    put (Rule items.item d) is (make_is ∙ ap (tree.bits name word) fields_are) (e1 ∙ ap (λ y. e ++ y) (e2 ∙ ap (λ y. f ++ y) (e3 ∙ ap (λ y. g ++ y) (e4 ∙ ap (λ y. h ++ y) (e5 ∙ ap (λ y. i ++ y) e6)))))
+    placed_spelled (Rule items.item d) is (make_is ∙ ap (tree.bits name word) fields_are) (e1 ∙ ap (λ y. e ++ y) (e2 ∙ ap (λ y. f ++ y) (e3 ∙ ap (λ y. g ++ y) (e4 ∙ ap (λ y. h ++ y) (e5 ∙ ap (λ y. i ++ y) e6)))))
     (items.bits t n c w o some u)
 to_form d head.Struct v row (make, (at, e, r, e1, t, (name, f, r2, e2, n, (fields, (open_, g, r3, e3, o, (xs, h, i, e4, some, (to, u, fields_are))), make_is))), is) =
-    put (Rule items.item d) is (make_is ∙ ap (tree.structure name) fields_are) (e1 ∙ ap (λ y. e ++ y) (e2 ∙ ap (λ y. f ++ y) (e3 ∙ ap (λ y. g ++ y) e4))) (items.structure t n o some u)
+    placed_spelled (Rule items.item d) is (make_is ∙ ap (tree.structure name) fields_are) (e1 ∙ ap (λ y. e ++ y) (e2 ∙ ap (λ y. f ++ y) (e3 ∙ ap (λ y. g ++ y) e4))) (items.structure t n o some u)
 to_form d head.Area v row (make, (constant, e, r, e1, q, (at, f, r2, e2, t, (name, g, r3, e3, n, (colon, h, r4, e4, c, (a, i, r5, e5, ra, (part, j, k, e6, (init, ri, part_is), (to, s, make_is))))))), is) =
-    put (Rule items.item d) is (make_is ∙ part_is) (e1 ∙ ap (λ y. e ++ y) (e2 ∙ ap (λ y. f ++ y) (e3 ∙ ap (λ y. g ++ y) (e4 ∙ ap (λ y. h ++ y) (e5 ∙ ap (λ y. i ++ y) e6)))))
+    placed_spelled (Rule items.item d) is (make_is ∙ part_is) (e1 ∙ ap (λ y. e ++ y) (e2 ∙ ap (λ y. f ++ y) (e3 ∙ ap (λ y. g ++ y) (e4 ∙ ap (λ y. h ++ y) (e5 ∙ ap (λ y. i ++ y) e6)))))
     (items.area constant e init j q t n c ra ri s)
 to_form d head.Import v row (make, (at, e, r, e1, t, (part, f, g, e2, (x, rx, part_is), (to, s, make_is))), is) =
-    put (Rule items.item d) is (make_is ∙ part_is) (e1 ∙ ap (λ y. e ++ y) e2) (items.import t rx s)
+    placed_spelled (Rule items.item d) is (make_is ∙ part_is) (e1 ∙ ap (λ y. e ++ y) e2) (items.import t rx s)
 
 pub to_item : (d : ℕ) (v : Item) (row : Row Token) → ItemOf d v row → Rule items.item d v row
 to_item d v row (inl (h, r)) = to_form d h v row r
 to_item d v row (inr (make, (exported, e, r, e1, q, (at, f, r2, e2, t, (x, g, r3, e3, rx, (contracts, h, i, e4, many, (body, rb, make_is))))), is)) =
-    put (Rule items.item d) is make_is (e1 ∙ ap (λ y. e ++ y) (e2 ∙ ap (λ y. f ++ y) (e3 ∙ ap (λ y. g ++ y) e4))) (items.procedure exported e contracts h q t rx many rb)
+    placed_spelled (Rule items.item d) is make_is (e1 ∙ ap (λ y. e ++ y) (e2 ∙ ap (λ y. f ++ y) (e3 ∙ ap (λ y. g ++ y) e4))) (items.procedure exported e contracts h q t rx many rb)
 
 pub from_item : (d : ℕ) (v : Item) (row : Row Token) → Rule items.item d v row → ItemOf d v row
 from_item d v row (items.bits {name} {word} {head = at} {colon} {at = open_} {to} {fields} {e} {f} {g} {h} {i} {j} {k} t n c w o some u) =
@@ -186,7 +186,7 @@ ModuleOf d = Placed (After (Terminal d (keyword key.KwModule)) (Then (Terminal d
 
 pub to_module : (d : ℕ) (v : Module) (row : Row Token) → ModuleOf d v row → modules.Rule modules.module_ d v row
 to_module d v row (make, (at, e, r, e1, t, (name, f, r2, e2, n, (to, g, h, e3, s, (xs, many, make_is)))), is) =
-    put (modules.Rule modules.module_ d) is make_is (e1 ∙ ap (λ y. e ++ y) (e2 ∙ ap (λ y. f ++ y) e3)) (modules.whole xs h t n s many)
+    placed_spelled (modules.Rule modules.module_ d) is make_is (e1 ∙ ap (λ y. e ++ y) (e2 ∙ ap (λ y. f ++ y) e3)) (modules.whole xs h t n s many)
 
 pub from_module : (d : ℕ) (v : Module) (row : Row Token) → modules.Rule modules.module_ d v row → ModuleOf d v row
 from_module d v row (modules.whole {name} {head = at} {to} xs h {e} {f} {g} t n s many) =

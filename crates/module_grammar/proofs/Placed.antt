@@ -24,10 +24,10 @@ starts_placed {A} s = starts_spanned (λ (make : Span → A) ts. make (span_of t
 pub plain_placed : {A : Type 0} {R : Language Token (Span → A)} → Plain signs R → Plain signs (Placed R)
 plain_placed {A} p = plain_spanned (λ (make : Span → A) ts. make (span_of ts)) p
 
--- ---- an equal row and an equal value
+-- ---- what a production spells: an equal value is spelled by an equal row, and what is made of a place by the row with that place
 
-pub told : {A : Type 0} (R : Language Token A) {v w : A} {row row2 : Row Token} → v ≡ w → row ≡ row2 → R w row2 → R v row
-told R {w = w} {row} is e r = subst (λ x. R x row) (sym is) (subst (R w) (sym e) r)
+pub equals_spelled : {A : Type 0} (R : Language Token A) {v w : A} {row row2 : Row Token} → v ≡ w → row ≡ row2 → R w row2 → R v row
+equals_spelled R {w = w} {row} is e r = subst (λ x. R x row) (sym is) (subst (R w) (sym e) r)
 
-pub put : {A : Type 0} (R : Language Token A) {v : A} {row row2 : Row Token} {made make : Span → A} → v ≡ made (span_of (tokens row)) → made ≡ make → row ≡ row2 → R (make (span_of (tokens row2))) row2 → R v row
-put R {row} {row2} {make = make} is same e r = told R (is ∙ ap (λ f. f (span_of (tokens row))) same ∙ ap (λ y. make (span_of (tokens y))) e) e r
+pub placed_spelled : {A : Type 0} (R : Language Token A) {v : A} {row row2 : Row Token} {made make : Span → A} → v ≡ made (span_of (tokens row)) → made ≡ make → row ≡ row2 → R (make (span_of (tokens row2))) row2 → R v row
+placed_spelled R {row} {row2} {make = make} is same e r = equals_spelled R (is ∙ ap (λ f. f (span_of (tokens row))) same ∙ ap (λ y. make (span_of (tokens y))) e) e r

@@ -1,4 +1,4 @@
--- The productions of calls, statements and blocks, put together from languages: they spell what the relation says.
+-- The productions of calls, statements and blocks, placed_spelled together from languages: they spell what the relation says.
 use Rattle.std.proofs.Common.{ℕ, suc, List, [], ◌∷◌, ◌++◌, inl, inr, refl, sym, ap, ◌∙◌, subst, Some, None}
 use Rattle.iv_words.specs.declared.Span.{Span}
 use Rattle.iv_words.specs.declared.Name.{Name}
@@ -23,14 +23,14 @@ use Rattle.module_grammar.specs.Pieces.{Expression, Postfix, Area, FirstValue, U
 use Rattle.module_grammar.specs.Trees as tree
 use Rattle.module_grammar.specs.Statements.{Tree, Rule}
 use Rattle.module_grammar.specs.Statements as statements
-use Rattle.module_grammar.proofs.Placed.{Placed, told, put}
+use Rattle.module_grammar.proofs.Placed.{Placed, equals_spelled, placed_spelled}
 use Rattle.module_grammar.proofs.Edges.{three_before}
 
 -- ---- lists
 
 pub to_many : (s : statements.Symbol) (d : ℕ) (xs : List (Tree s)) (row : Row Token) → Many (Rule s d) xs row → Rule (statements.many s) d xs row
-to_many s d [] row e = told (Rule (statements.many s) d) refl e statements.none
-to_many s d (x ∷ xs) row (f, g, e, r, others) = told (Rule (statements.many s) d) refl e (statements.more r (to_many s d xs g others))
+to_many s d [] row e = equals_spelled (Rule (statements.many s) d) refl e statements.none
+to_many s d (x ∷ xs) row (f, g, e, r, others) = equals_spelled (Rule (statements.many s) d) refl e (statements.more r (to_many s d xs g others))
 
 pub from_many : (s : statements.Symbol) (d : ℕ) (xs : List (Tree s)) (row : Row Token) → Rule (statements.many s) d xs row → Many (Rule s d) xs row
 from_many s d [] row statements.none = refl
@@ -46,7 +46,7 @@ CallOf d = Placed (Then (Terminal d name_of) (λ name. Mapped (tree.call name) (
 
 pub to_call : (d : ℕ) (v : CallText) (row : Row Token) → CallOf d v row → Rule statements.call d v row
 to_call d v row (make, (name, e, r, e1, t, (args, (p, (at, f, g, e2, o, c), args_are), make_is)), is) =
-    put (Rule statements.call d) is (make_is ∙ ap (tree.call name) args_are) (e1 ∙ ap (λ y. e ++ y) e2) (statements.called t o c)
+    placed_spelled (Rule statements.call d) is (make_is ∙ ap (tree.call name) args_are) (e1 ∙ ap (λ y. e ++ y) e2) (statements.called t o c)
 
 pub from_call : (d : ℕ) (v : CallText) (row : Row Token) → Rule statements.call d v row → CallOf d v row
 from_call d v row (statements.called {name} {at} {to} {args} {e} {f} {g} t o c) =
@@ -59,7 +59,7 @@ Counter d = Then (Terminal d name_of) (λ name. After (Terminal d (symbol mark.C
 
 pub to_counter : (d : ℕ) (v : Name × ℕ) (row : Row Token) → Counter d v row → Rule statements.counter d v row
 to_counter d v row (name, e, r, e1, t, (colon, f, r2, e2, c, (ix, g, r3, e3, x, (n, (at, h, r4, e4, o, (m, i, j, e5, u, (to, l, m_is))), is)))) =
-    told (Rule statements.counter d) (is ∙ ap (λ k. (name, k)) m_is) (e1 ∙ ap (λ y. e ++ y) (e2 ∙ ap (λ y. f ++ y) (e3 ∙ ap (λ y. g ++ y) (e4 ∙ ap (λ y. h ++ y) e5)))) (statements.counted t c x o u l)
+    equals_spelled (Rule statements.counter d) (is ∙ ap (λ k. (name, k)) m_is) (e1 ∙ ap (λ y. e ++ y) (e2 ∙ ap (λ y. f ++ y) (e3 ∙ ap (λ y. g ++ y) (e4 ∙ ap (λ y. h ++ y) e5)))) (statements.counted t c x o u l)
 
 pub from_counter : (d : ℕ) (v : Name × ℕ) (row : Row Token) → Rule statements.counter d v row → Counter d v row
 from_counter d v row (statements.counted {n} {name} {colon} {ix} {at} {to} {e} {f} {g} {h} {i} {j} t c x o u l) =
@@ -72,7 +72,7 @@ BlockOf d = Placed (Mapped tree.block (Enclosed d (symbol mark.OpenBrace) (symbo
 
 pub to_block : (d : ℕ) (v : Block) (row : Row Token) → BlockOf d v row → Rule statements.block d v row
 to_block d v row (make, (stmts, (at, f, r, e, o, (xs, g, h, e2, many, (to, c, stmts_are))), make_is), is) =
-    put (Rule statements.block d) is (make_is ∙ ap tree.block stmts_are) (e ∙ ap (λ y. f ++ y) e2) (statements.braces o (to_many statements.statement (suc d) xs g many) c)
+    placed_spelled (Rule statements.block d) is (make_is ∙ ap tree.block stmts_are) (e ∙ ap (λ y. f ++ y) e2) (statements.braces o (to_many statements.statement (suc d) xs g many) c)
 
 pub from_block : (d : ℕ) (v : Block) (row : Row Token) → Rule statements.block d v row → BlockOf d v row
 from_block d v row (statements.braces {at} {to} {stmts} {f} {g} {h} o many c) =
@@ -89,9 +89,9 @@ Conditional d = After (Terminal d (keyword key.KwIf)) (IfRest d)
 
 pub to_conditional : (d : ℕ) (v : StmtKind) (row : Row Token) → Conditional d v row → Rule statements.conditional d v row
 to_conditional d v row (head, e, r, e1, t, (x, f, r2, e2, rx, (b, g, r3, e3, rb, (None, none, is)))) =
-    told (Rule statements.conditional d) is (e1 ∙ ap (λ y. e ++ y) (e2 ∙ ap (λ y. f ++ y) (e3 ∙ ap (λ y. g ++ y) none ∙ append_nil g))) (statements.if_alone t rx rb)
+    equals_spelled (Rule statements.conditional d) is (e1 ∙ ap (λ y. e ++ y) (e2 ∙ ap (λ y. f ++ y) (e3 ∙ ap (λ y. g ++ y) none ∙ append_nil g))) (statements.if_alone t rx rb)
 to_conditional d v row (head, e, r, e1, t, (x, f, r2, e2, rx, (b, g, r3, e3, rb, (Some c, (at, h, i, e4, l, rc), is)))) =
-    told (Rule statements.conditional d) is (e1 ∙ ap (λ y. e ++ y) (e2 ∙ ap (λ y. f ++ y) (e3 ∙ ap (λ y. g ++ y) e4))) (statements.if_else t rx rb l rc)
+    equals_spelled (Rule statements.conditional d) is (e1 ∙ ap (λ y. e ++ y) (e2 ∙ ap (λ y. f ++ y) (e3 ∙ ap (λ y. g ++ y) e4))) (statements.if_else t rx rb l rc)
 
 pub from_conditional : (d : ℕ) (v : StmtKind) (row : Row Token) → Rule statements.conditional d v row → Conditional d v row
 from_conditional d v row (statements.if_alone {head} {x} {b} {e} {f} {g} t rx rb) =
@@ -106,7 +106,7 @@ abbrev pub Alternative : ℕ → Language Token Block
 Alternative d = Either (ElseIf d) (Rule statements.block d)
 
 pub to_alternative : (d : ℕ) (v : Block) (row : Row Token) → Alternative d v row → Rule statements.alternative d v row
-to_alternative d v row (inl (make, (kind, r, make_is), is)) = put (Rule statements.alternative d) is make_is refl (statements.else_if (to_conditional (suc d) kind row r))
+to_alternative d v row (inl (make, (kind, r, make_is), is)) = placed_spelled (Rule statements.alternative d) is make_is refl (statements.else_if (to_conditional (suc d) kind row r))
 to_alternative d v row (inr r) = statements.else_block r
 
 pub from_alternative : (d : ℕ) (v : Block) (row : Row Token) → Rule statements.alternative d v row → Alternative d v row
@@ -153,35 +153,35 @@ Kind d = Headed (Form d) (CallAlone d)
 
 to_form : (d : ℕ) (h : StatementForm) (v : StmtKind) (row : Row Token) → Form d h v row → Rule statements.kind d v row
 to_form d head.Let v row (at, e, r, e1, t, (name, f, r2, e2, n, (assign, g, r3, e3, a, (kind, h, i, e4, inl (c, rc, kind_is), (to, s, is))))) =
-    told (Rule statements.kind d) (is ∙ kind_is) (e1 ∙ ap (λ y. e ++ y) (e2 ∙ ap (λ y. f ++ y) (e3 ∙ ap (λ y. g ++ y) e4))) (statements.let_call t n a rc s)
+    equals_spelled (Rule statements.kind d) (is ∙ kind_is) (e1 ∙ ap (λ y. e ++ y) (e2 ∙ ap (λ y. f ++ y) (e3 ∙ ap (λ y. g ++ y) e4))) (statements.let_call t n a rc s)
 to_form d head.Let v row (at, e, r, e1, t, (name, f, r2, e2, n, (assign, g, r3, e3, a, (kind, h, i, e4, inr (x, rx, kind_is), (to, s, is))))) =
-    told (Rule statements.kind d) (is ∙ kind_is) (e1 ∙ ap (λ y. e ++ y) (e2 ∙ ap (λ y. f ++ y) (e3 ∙ ap (λ y. g ++ y) e4))) (statements.let_expression t n a rx s)
+    equals_spelled (Rule statements.kind d) (is ∙ kind_is) (e1 ∙ ap (λ y. e ++ y) (e2 ∙ ap (λ y. f ++ y) (e3 ∙ ap (λ y. g ++ y) e4))) (statements.let_expression t n a rx s)
 to_form d head.Alloc v row (at, e, r, e1, t, (name, f, r2, e2, n, (colon, g, r3, e3, c, (a, h, r4, e4, ra, (kind, i, j, e5, (init, ri, kind_is), (to, s, is)))))) =
-    told (Rule statements.kind d) (is ∙ kind_is) (e1 ∙ ap (λ y. e ++ y) (e2 ∙ ap (λ y. f ++ y) (e3 ∙ ap (λ y. g ++ y) (e4 ∙ ap (λ y. h ++ y) e5)))) (statements.alloc init i t n c ra ri s)
+    equals_spelled (Rule statements.kind d) (is ∙ kind_is) (e1 ∙ ap (λ y. e ++ y) (e2 ∙ ap (λ y. f ++ y) (e3 ∙ ap (λ y. g ++ y) (e4 ∙ ap (λ y. h ++ y) e5)))) (statements.alloc init i t n c ra ri s)
 to_form d head.Store v row (at, e, r, e1, t, (target, f, r2, e2, rt, (assign, g, r3, e3, a, (kind, h, i, e4, (x, rx, kind_is), (to, s, is))))) =
-    told (Rule statements.kind d) (is ∙ kind_is) (e1 ∙ ap (λ y. e ++ y) (e2 ∙ ap (λ y. f ++ y) (e3 ∙ ap (λ y. g ++ y) e4))) (statements.store t rt a rx s)
+    equals_spelled (Rule statements.kind d) (is ∙ kind_is) (e1 ∙ ap (λ y. e ++ y) (e2 ∙ ap (λ y. f ++ y) (e3 ∙ ap (λ y. g ++ y) e4))) (statements.store t rt a rx s)
 to_form d head.Copy v row (at, e, r, e1, t, (target, f, r2, e2, rt, (comma, g, r3, e3, a, (kind, h, i, e4, (x, rx, kind_is), (to, s, is))))) =
-    told (Rule statements.kind d) (is ∙ kind_is) (e1 ∙ ap (λ y. e ++ y) (e2 ∙ ap (λ y. f ++ y) (e3 ∙ ap (λ y. g ++ y) e4))) (statements.copy t rt a rx s)
+    equals_spelled (Rule statements.kind d) (is ∙ kind_is) (e1 ∙ ap (λ y. e ++ y) (e2 ∙ ap (λ y. f ++ y) (e3 ∙ ap (λ y. g ++ y) e4))) (statements.copy t rt a rx s)
 to_form d head.If v row r = statements.choice (to_conditional d v row r)
-to_form d head.Forever v row (at, e, f, e1, t, (b, rb, is)) = told (Rule statements.kind d) is e1 (statements.forever t rb)
-to_form d head.Map v row (at, e, r, e1, t, (c, f, g, e2, rc, (b, rb, is))) = told (Rule statements.kind d) is (e1 ∙ ap (λ y. e ++ y) e2) (statements.map t rc rb)
+to_form d head.Forever v row (at, e, f, e1, t, (b, rb, is)) = equals_spelled (Rule statements.kind d) is e1 (statements.forever t rb)
+to_form d head.Map v row (at, e, r, e1, t, (c, f, g, e2, rc, (b, rb, is))) = equals_spelled (Rule statements.kind d) is (e1 ∙ ap (λ y. e ++ y) e2) (statements.map t rc rb)
 to_form d head.Upto v row (at, e, r, e1, t, (c, f, r2, e2, rc, (bound, g, r3, e3, l, (x, h, i, e4, rx, (b, rb, is))))) =
-    told (Rule statements.kind d) is (e1 ∙ ap (λ y. e ++ y) (e2 ∙ ap (λ y. f ++ y) (e3 ∙ ap (λ y. g ++ y) e4))) (statements.upto t rc l rx rb)
+    equals_spelled (Rule statements.kind d) is (e1 ∙ ap (λ y. e ++ y) (e2 ∙ ap (λ y. f ++ y) (e3 ∙ ap (λ y. g ++ y) e4))) (statements.upto t rc l rx rb)
 to_form d head.Downto v row (at, e, r, e1, t, (c, f, r2, e2, rc, (bound, g, r3, e3, l, (x, h, i, e4, rx, (b, rb, is))))) =
-    told (Rule statements.kind d) is (e1 ∙ ap (λ y. e ++ y) (e2 ∙ ap (λ y. f ++ y) (e3 ∙ ap (λ y. g ++ y) e4))) (statements.downto t rc l rx rb)
-to_form d head.Break v row (at, e, f, e1, t, (to, s, is)) = told (Rule statements.kind d) is e1 (statements.break t s)
-to_form d head.Return v row (at, e, f, e1, t, inl (to, s, is)) = told (Rule statements.kind d) is e1 (statements.return None [] t refl s)
+    equals_spelled (Rule statements.kind d) is (e1 ∙ ap (λ y. e ++ y) (e2 ∙ ap (λ y. f ++ y) (e3 ∙ ap (λ y. g ++ y) e4))) (statements.downto t rc l rx rb)
+to_form d head.Break v row (at, e, f, e1, t, (to, s, is)) = equals_spelled (Rule statements.kind d) is e1 (statements.break t s)
+to_form d head.Return v row (at, e, f, e1, t, inl (to, s, is)) = equals_spelled (Rule statements.kind d) is e1 (statements.return None [] t refl s)
 to_form d head.Return v row (at, e, r, e1, t, inr (kind, f, g, e2, (x, rx, kind_is), (to, s, is))) =
-    told (Rule statements.kind d) (is ∙ kind_is) (e1 ∙ ap (λ y. e ++ y) e2) (statements.return (Some x) f t rx s)
+    equals_spelled (Rule statements.kind d) (is ∙ kind_is) (e1 ∙ ap (λ y. e ++ y) e2) (statements.return (Some x) f t rx s)
 to_form d head.Assert v row (at, e, r, e1, t, (kind, m, i, e2, (x, (paren, f, r2, e3, o, (y, g, h, e4, ry, (to, c, x_is))), kind_is), (end, s, is))) =
-    told (Rule statements.kind d) (is ∙ kind_is ∙ ap form.Assert x_is) (e1 ∙ ap (λ y. e ++ y) (e2 ∙ three_before m f r2 g h i e3 e4)) (statements.assert t o ry c s)
-to_form d head.NoAlloc v row (at, e, f, e1, t, (b, rb, is)) = told (Rule statements.kind d) is e1 (statements.noalloc t rb)
-to_form d head.NoBreak v row (at, e, f, e1, t, (b, rb, is)) = told (Rule statements.kind d) is e1 (statements.nobreak t rb)
-to_form d head.NoReturn v row (at, e, f, e1, t, (b, rb, is)) = told (Rule statements.kind d) is e1 (statements.noreturn t rb)
+    equals_spelled (Rule statements.kind d) (is ∙ kind_is ∙ ap form.Assert x_is) (e1 ∙ ap (λ y. e ++ y) (e2 ∙ three_before m f r2 g h i e3 e4)) (statements.assert t o ry c s)
+to_form d head.NoAlloc v row (at, e, f, e1, t, (b, rb, is)) = equals_spelled (Rule statements.kind d) is e1 (statements.noalloc t rb)
+to_form d head.NoBreak v row (at, e, f, e1, t, (b, rb, is)) = equals_spelled (Rule statements.kind d) is e1 (statements.nobreak t rb)
+to_form d head.NoReturn v row (at, e, f, e1, t, (b, rb, is)) = equals_spelled (Rule statements.kind d) is e1 (statements.noreturn t rb)
 
 to_kind : (d : ℕ) (v : StmtKind) (row : Row Token) → Kind d v row → Rule statements.kind d v row
 to_kind d v row (inl (h, r)) = to_form d h v row r
-to_kind d v row (inr (kind, e, f, e1, (c, rc, kind_is), (to, s, is))) = told (Rule statements.kind d) (is ∙ kind_is) e1 (statements.call_alone rc s)
+to_kind d v row (inr (kind, e, f, e1, (c, rc, kind_is), (to, s, is))) = equals_spelled (Rule statements.kind d) (is ∙ kind_is) e1 (statements.call_alone rc s)
 
 from_kind : (d : ℕ) (v : StmtKind) (row : Row Token) → Rule statements.kind d v row → Kind d v row
 from_kind d v row (statements.let_expression {name} {head = at} {at = assign} {to} {x} {e} {f} {g} {h} {i} t n a rx s) =
@@ -258,7 +258,7 @@ abbrev pub Statement : ℕ → Language Token Stmt
 Statement d = Placed (Mapped tree.statement (Kind d))
 
 pub to_statement : (d : ℕ) (v : Stmt) (row : Row Token) → Statement d v row → Rule statements.statement d v row
-to_statement d v row (make, (kind, r, make_is), is) = put (Rule statements.statement d) is make_is refl (statements.placed (to_kind d kind row r))
+to_statement d v row (make, (kind, r, make_is), is) = placed_spelled (Rule statements.statement d) is make_is refl (statements.placed (to_kind d kind row r))
 
 pub from_statement : (d : ℕ) (v : Stmt) (row : Row Token) → Rule statements.statement d v row → Statement d v row
 from_statement d v row (statements.placed {k} {f} r) = (tree.statement k, (k, from_kind d k f r, refl), refl)

@@ -1,4 +1,4 @@
--- The productions of types and areas, put together from languages: they spell what the relation says.
+-- The productions of types and areas, placed_spelled together from languages: they spell what the relation says.
 use Rattle.std.proofs.Common.{ℕ, suc, Bool, ◌++◌, inl, inr, refl, ap, ◌∙◌, is_some}
 use Rattle.ivory_lexer.specs.declared.Token.{Token}
 use Rattle.ivory_lexer.specs.declared.Mark.TheVariants as mark
@@ -19,7 +19,7 @@ use Rattle.module_grammar.specs.Tokens.{region_of}
 use Rattle.module_grammar.specs.Trees as tree
 use Rattle.module_grammar.specs.Types.{Spells, Rule}
 use Rattle.module_grammar.specs.Types as types
-use Rattle.module_grammar.proofs.Placed.{Placed, told, put}
+use Rattle.module_grammar.proofs.Placed.{Placed, equals_spelled, placed_spelled}
 
 -- ---- stored types
 
@@ -35,11 +35,11 @@ abbrev pub Value : ℕ → Language Token TypeKind
 Value d = Headed (ValueOf d) (ByName d)
 
 pub to_value : (d : ℕ) (v : TypeKind) (row : Row Token) → Value d v row → Rule types.value d v row
-to_value d v row (inl (head.Truth, (at, t, is))) = told (Rule types.value d) is refl (types.truth t)
-to_value d v row (inl (head.Whole, (k, t, is))) = told (Rule types.value d) is refl (types.whole t)
+to_value d v row (inl (head.Truth, (at, t, is))) = equals_spelled (Rule types.value d) is refl (types.truth t)
+to_value d v row (inl (head.Whole, (k, t, is))) = equals_spelled (Rule types.value d) is refl (types.whole t)
 to_value d v row (inl (head.Index, (ix, e, r, e1, t, (n, (at, f, r2, e2, o, (m, g, h, e3, u, (to, c, m_is))), is)))) =
-    told (Rule types.value d) (is ∙ ap form.Ix m_is) (e1 ∙ ap (λ y. e ++ y) (e2 ∙ ap (λ y. f ++ y) e3)) (types.index t o u c)
-to_value d v row (inr (w, t, is)) = told (Rule types.value d) is refl (types.bits t)
+    equals_spelled (Rule types.value d) (is ∙ ap form.Ix m_is) (e1 ∙ ap (λ y. e ++ y) (e2 ∙ ap (λ y. f ++ y) e3)) (types.index t o u c)
+to_value d v row (inr (w, t, is)) = equals_spelled (Rule types.value d) is refl (types.bits t)
 
 pub from_value : (d : ℕ) (v : TypeKind) (row : Row Token) → Rule types.value d v row → Value d v row
 from_value d v row (types.truth {at} t) = inl (head.Truth, (at, t, refl))
@@ -67,10 +67,10 @@ Area d = Either (Array d) (Either (Structure d) (Stored d))
 
 pub to_area : (d : ℕ) (v : AreaText) (row : Row Token) → Area d v row → Rule types.area d v row
 to_area d v row (inl (make, (kind, (at, f, r, e1, o, (n, g, r2, e2, u, (to, h, i, e3, c, (a, ra, kind_is)))), make_is), is)) =
-    put (Rule types.area d) is (make_is ∙ ap tree.area kind_is) (e1 ∙ ap (λ y. f ++ y) (e2 ∙ ap (λ y. g ++ y) e3)) (types.array o u c ra)
+    placed_spelled (Rule types.area d) is (make_is ∙ ap tree.area kind_is) (e1 ∙ ap (λ y. f ++ y) (e2 ∙ ap (λ y. g ++ y) e3)) (types.array o u c ra)
 to_area d v row (inr (inl (make, (kind, (head, f, g, e, t, (w, u, kind_is)), make_is), is))) =
-    put (Rule types.area d) is (make_is ∙ ap tree.area kind_is) e (types.structure t u)
-to_area d v row (inr (inr (make, (kind, r, make_is), is))) = put (Rule types.area d) is make_is refl (types.stored r)
+    placed_spelled (Rule types.area d) is (make_is ∙ ap tree.area kind_is) e (types.structure t u)
+to_area d v row (inr (inr (make, (kind, r, make_is), is))) = placed_spelled (Rule types.area d) is make_is refl (types.stored r)
 
 pub from_area : (d : ℕ) (v : AreaText) (row : Row Token) → Rule types.area d v row → Area d v row
 from_area d v row (types.stored {k} r) = inr (inr (tree.stored k, (k, r, refl), refl))
@@ -92,8 +92,8 @@ Typed d = Placed (Mapped tree.typed (Either (Reference d) (Rule types.value d)))
 
 pub to_type : (d : ℕ) (v : TypeText) (row : Row Token) → Typed d v row → Rule types.type d v row
 to_type d v row (make, (kind, inl (constant, e, r, e1, c, (head, f, r2, e2, t, (where_, g, h, e3, u, (a, ra, kind_is)))), make_is), is) =
-    put (Rule types.type d) is (make_is ∙ ap tree.typed kind_is) (e1 ∙ ap (λ y. e ++ y) (e2 ∙ ap (λ y. f ++ y) e3)) (types.reference constant e c t u ra)
-to_type d v row (make, (kind, inr r, make_is), is) = put (Rule types.type d) is make_is refl (types.plain r)
+    placed_spelled (Rule types.type d) is (make_is ∙ ap tree.typed kind_is) (e1 ∙ ap (λ y. e ++ y) (e2 ∙ ap (λ y. f ++ y) e3)) (types.reference constant e c t u ra)
+to_type d v row (make, (kind, inr r, make_is), is) = placed_spelled (Rule types.type d) is make_is refl (types.plain r)
 
 pub from_type : (d : ℕ) (v : TypeText) (row : Row Token) → Rule types.type d v row → Typed d v row
 from_type d v row (types.plain {k} r) = (tree.typed k, (k, inr r, refl), refl)

@@ -15,7 +15,7 @@ pub use laws::{
 };
 
 /// The forms of a stored type that their first token tells, all but bit data by its name.
-#[derive(Clone, Copy, Debug, Drop, PartialEq, Eq)]
+#[derive(Clone, Copy, Drop)]
 pub enum ValueForm {
     Truth,
     Whole,
@@ -23,7 +23,7 @@ pub enum ValueForm {
 }
 
 /// The forms of a statement that their first token tells, all but a call.
-#[derive(Clone, Copy, Debug, Drop, PartialEq, Eq)]
+#[derive(Clone, Copy, Drop)]
 pub enum StatementForm {
     Let,
     Alloc,
@@ -43,7 +43,7 @@ pub enum StatementForm {
 }
 
 /// The forms of an item that their first token tells, all but a procedure.
-#[derive(Clone, Copy, Debug, Drop, PartialEq, Eq)]
+#[derive(Clone, Copy, Drop)]
 pub enum ItemForm {
     Bits,
     Struct,

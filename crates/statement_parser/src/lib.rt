@@ -12,7 +12,7 @@ mod types;
 
 pub use area::area_text;
 pub use init::first_value;
-pub use list::{Part, Repeated, as_many, in_braces, in_parens, with_commas};
+pub use list::{Part, Repeated, as_many, at_least_one, in_braces, in_parens, with_commas};
 pub use simple::{area_and_value, semicolon};
 pub use stmt::block;
 pub use types::{optional_keyword, type_text};

@@ -1,8 +1,8 @@
 //! Lists of parts, each read by its own function, and the brackets around them.
 
-ghost use Rattle.std.specs.Prelude.{◌≡◌, ◌<◌, ◌∷◌, IfOk};
+ghost use Rattle.std.specs.Prelude.{◌≡◌, ◌<◌, [], ◌∷◌, ◌++◌, IfOk};
 ghost use Rattle.ivory_lexer.specs.declared.Mark.TheVariants as marks;
-ghost use Rattle.reading.specs.Reader.{after, below, many, mapped, separated};
+ghost use Rattle.reading.specs.Reader.{after, at_least_one, below, many, mapped, separated};
 ghost use Rattle.expression_grammar.specs.Tokens.{is_mark};
 ghost use Rattle.expression_grammar.specs.Reader.{mark_reader};
 ghost use Rattle.expression_parser.specs.Gives.{Gives};
@@ -11,7 +11,7 @@ ghost use Rattle.module_grammar.specs.ItemReader as items;
 ghost use Rattle.statement_parser.specs.Parts as parts;
 
 use expression_parser::{Fault, mark, starts_mark};
-use iv_words::{Seq, Span};
+use iv_words::{Memory, Seq, Span};
 use ivory_lexer::{Mark, Token};
 use std::alloc::Global;
 
@@ -50,15 +50,16 @@ pub trait Repeated: Part {
         ensures { result ≡ starts first tokens.now };
 }
 
-/// None or more, one behind the other.
-pub fn as_many<T: Repeated>(
+/// These parts, and as many more as follow.
+fn further<T: Repeated>(
     alloc: Global,
     levels: usize,
+    first: Seq<T::Value>,
     tokens: &[Token],
 ) -> Result<(Seq<T::Value>, &[Token]), Fault<'_>>
-    ensures { Gives result (many T.first (T.Part.reader levels) tokens.now) }
+    ensures { Gives result (mapped (λ more. first ++ more) (many T.first (T.Part.reader levels) tokens.now)) }
 {
-    let mut parts = Seq::new(alloc);
+    let mut parts = first;
     let mut rest = tokens;
     // Each part takes a token at least.
     for _turn in 0..tokens.len() {
@@ -70,6 +71,50 @@ pub fn as_many<T: Repeated>(
         rest = after;
     }
     Ok((parts, rest))
+}
+
+/// None or more, one behind the other.
+pub fn as_many<T: Repeated>(
+    alloc: Global,
+    levels: usize,
+    tokens: &[Token],
+) -> Result<(Seq<T::Value>, &[Token]), Fault<'_>>
+    ensures { Gives result (many T.first (T.Part.reader levels) tokens.now) }
+{
+    further::<T>(alloc, levels, Seq::new(alloc), tokens)
+}
+
+/// The list of this part alone, with room for it alone.
+fn alone<V: Drop>(alloc: Global, part: V) -> Result<Seq<V>, Memory>
+    ensures { IfOk result (λ parts. parts ≡ part ∷ []) }
+{
+    let mut parts = Seq::with_capacity(alloc, 1)?;
+    parts.push(part)?;
+    Ok(parts)
+}
+
+fn behind<T: Repeated>(
+    alloc: Global,
+    levels: usize,
+    first: T::Value,
+    tokens: &[Token],
+) -> Result<(Seq<T::Value>, &[Token]), Fault<'_>>
+    ensures { Gives result (mapped (λ more. first ∷ more) (many T.first (T.Part.reader levels) tokens.now)) }
+{
+    let first = alone(alloc, first)?;
+    further::<T>(alloc, levels, first, tokens)
+}
+
+/// One or more, one behind the other.
+pub fn at_least_one<T: Repeated>(
+    alloc: Global,
+    levels: usize,
+    tokens: &[Token],
+) -> Result<(Seq<T::Value>, &[Token]), Fault<'_>>
+    ensures { Gives result (at_least_one T.first (T.Part.reader levels) tokens.now) }
+{
+    let (first, rest) = T::read(alloc, levels, tokens)?;
+    behind::<T>(alloc, levels, first, rest)
 }
 
 fn next_part<T: Part>(
@@ -91,8 +136,7 @@ fn more_parts<T: Part>(
 ) -> Result<(Seq<T::Value>, &[Token]), Fault<'_>>
     ensures { Gives result (mapped (λ more. first ∷ more) (many (is_mark marks.Comma) (after (mark_reader marks.Comma) (T.reader levels)) tokens.now)) }
 {
-    let mut parts = Seq::with_capacity(alloc, 1)?;
-    parts.push(first)?;
+    let mut parts = alone(alloc, first)?;
     let mut rest = tokens;
     // Each further one takes a token at least.
     for _turn in 0..tokens.len() {

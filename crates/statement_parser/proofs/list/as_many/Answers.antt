@@ -1,9 +1,5 @@
-use Rattle.std.proofs.Common.{rules, arith}
-use Rattle.reading.proofs.Turns.{turns_init, turns_after}
+use Rattle.statement_parser.proofs.Further.{none_before}
 use Rattle.statement_parser.proofs.list.as_many.Goals as goal
 
-pub loop-turn-init : goal.loop-turn-init
-loop-turn-init g c = turns_init _ _ _ _ _ (omega arith) c.new-parts.ensures
-
-pub loop-turn-preserved : goal.loop-turn-preserved
-loop-turn-preserved g c = turns_after c.in_ok-next.next _ _ _ c.loop-turn.invariant (omega arith) (search rules) c.in_ok-next.ensures c.in_ok-push.ensures.ok
+pub returns : goal.returns
+returns g c = none_before _ _ _ c.new.ensures c.further.ensures

@@ -1,5 +1,5 @@
 -- How great the numbers of an area are: no more cells than bytes, and no more nodes than cells at each level.
-use Rattle.std.proofs.Common.{◌≡◌, ℕ, zero, suc, ◌+◌, ◌*◌, ◌≤◌, List, length, Option, Some, None, IsTrue, arith, ap, sym, refl, subst}
+use Rattle.std.proofs.Common.{◌≡◌, ℕ, ◌+◌, ◌*◌, ◌≤◌, List, length, Option, Some, None, IsTrue, arith, ap, sym, refl, subst}
 use Rattle.std.specs.Prelude.{max, nat_le}
 use Rattle.std.specs.Option.{option_map}
 use Rattle.std.proofs.lemmas.List.{length-map}

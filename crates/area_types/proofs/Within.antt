@@ -1,10 +1,9 @@
 -- The parts of an area of a table are areas of it.
-use Rattle.std.proofs.Common.{◌≡◌, ℕ, zero, suc, ◌+◌, ◌*◌, ◌≤◌, List, [], ◌∷◌, ◌++◌, length, Option, Some, None, Result, Ok, Err, IfOk, IsTrue, ap, sym, ◌∙◌, refl, subst, arith, length-append}
-use Rattle.std.specs.Prelude.{slice_get, unwrap_or, get_or, nat_lt, nat_le, IfSome}
+use Rattle.std.proofs.Common.{◌≡◌, ℕ, zero, suc, ◌≤◌, List, [], ◌∷◌, ◌++◌, length, Option, Some, None, Result, Ok, Err, IfOk, IsTrue, ap, sym, ◌∙◌, refl, subst, arith, length-append}
+use Rattle.std.specs.Prelude.{slice_get, unwrap_or, get_or, nat_le, IfSome}
 use Rattle.std.specs.List.{list_all}
 use Rattle.std.specs.Option.{option_map}
-use Rattle.std.proofs.Math.Nat.{mul-le-mul_right}
-use Rattle.std.proofs.lemmas.Bool.{ltb-true, le-leb}
+use Rattle.std.proofs.lemmas.Bool.{le-leb}
 use Rattle.std.proofs.lemmas.List.{length-map}
 use Rattle.std.proofs.lemmas.Option.{slice_get-get_or, slice_get_within}
 use Rattle.iv_words.specs.declared.IntKind.{IntKind}

@@ -14,7 +14,7 @@ use Rattle.iv_words.specs.Kinds.{kind_bytes}
 use Rattle.area_types.specs.Sizes.{bytes, metric}
 use Rattle.area_types.specs.Tables.{is_length, is_stored, is_made_of, has_index_lengths, is_field, is_small, is_number, fits_after, fit_after}
 use Rattle.area_types.proofs.Truths.{both, also, is_below, below_is}
-use Rattle.area_types.proofs.Sound.{Sound, SoundRow, SoundTrees, sound_parts, sound_more, Fitting, fitting, length-trees_of}
+use Rattle.area_types.proofs.Sound.{Sound, SoundRow, SoundTrees, sound_parts, sound_more, fitting, length-trees_of}
 
 get_first : {A : Type 0} (xs ys : List A) (k : ℕ) → k < length xs → slice_get (xs ++ ys) k ≡ slice_get xs k
 get_first [] ys k h = absurd (omega arith)

@@ -1,5 +1,5 @@
 -- Areas as trees of types: their structs written out, each named by its number in the table, and a field by its number in the struct.
-use Rattle.std.specs.Prelude.{ℕ, zero, suc, List, [], ◌∷◌, ◌++◌, length, Option, slice_get, unwrap_or}
+use Rattle.std.specs.Prelude.{ℕ, suc, List, [], ◌∷◌, ◌++◌, length, Option, slice_get, unwrap_or}
 use Rattle.std.specs.Option.{option_map}
 use Rattle.type_trees.specs.Trees.{Tree, Leaf, Many, Struct, Row, End, Field, part, first}
 use Rattle.area_types.specs.Syntax as syntax

@@ -57,67 +57,118 @@ fn path_of(alloc: Global, steps: &[u32]) -> Result<Seq<u32>, Memory> {
     Ok(path)
 }
 
-/// The number of the first cell behind a path, where what stands there is a `uint32_t`.
-fn first_of(found: Option<(u32, Area)>) -> Option<u32> {
+/// The number of the first cell of what was found, where it is such an area.
+fn first_of(found: &Option<(u32, Area)>, wanted: &Area) -> Option<u32> {
     match found {
-        Some((first, Area::Stored(held))) if held.same(&ValueType::Int(IntKind::U32)) => Some(
-            first,
-        ),
-        Some(_) | None => None,
+        Some((first, area)) => {
+            if area.same(wanted) {
+                Some(*first)
+            } else {
+                None
+            }
+        }
+        None => None,
     }
 }
 
 #[test]
-fn a_struct_is_counted_and_has_parts(rt: HostRuntime) -> Result<(), AreaFault> {
+fn a_struct_is_counted(rt: HostRuntime) -> Result<(), AreaFault> {
     let alloc = rt.alloc();
     let table = pair_table(alloc)?;
     let area = pair_area(alloc, &table)?;
-    assert_eq!(rt; (cells(&area, &table), nodes(&area, &table)), (3, 5));
-    for (steps, first) in [([1, 0], Some(1)), ([1, 1], Some(2)), ([1, 2], None)] {
-        let path = path_of(alloc, steps.as_slice())?;
-        assert_eq!(rt; first_of(cell_at(alloc, &area, &table, &path)?), first);
-    }
+    assert_eq!(rt; cells(&area, &table), 3);
+    assert_eq!(rt; nodes(&area, &table), 5);
+    Ok(())
+}
+
+/// What stands behind a path into that struct.
+fn part_at(alloc: Global, steps: &[u32]) -> Result<Option<(u32, Area)>, AreaFault> {
+    let table = pair_table(alloc)?;
+    let area = pair_area(alloc, &table)?;
+    Ok(cell_at(alloc, &area, &table, &path_of(alloc, steps)?)?)
+}
+
+/// The number of the first cell behind a path, where a `uint32_t` stands there.
+fn cell_behind(alloc: Global, steps: &[u32]) -> Result<Option<u32>, AreaFault> {
+    let wanted = number(alloc, IntKind::U32)?;
+    let found = part_at(alloc, steps)?;
+    Ok(first_of(&found, &wanted))
+}
+
+#[test]
+fn paths_lead_to_cells(rt: HostRuntime) -> Result<(), AreaFault> {
+    let alloc = rt.alloc();
+    assert_eq!(rt; cell_behind(alloc, &[1, 1])?, Some(2));
+    assert_eq!(rt; cell_behind(alloc, &[1, 2])?, None);
     Ok(())
 }
 
 /// The fault of an array of numbers, over an empty table.
 fn fault_of(alloc: Global, length: u64, kind: IntKind) -> Result<Option<AreaFault>, Memory> {
     let element = Box::new(alloc, AreaShape::Stored(ValueType::Int(kind)))?;
-    let array = AreaShape::Array(length, element);
-    Ok(intern(alloc, &array, &StructTable::new(alloc)).err())
+    match intern(
+        alloc,
+        &AreaShape::Array(length, element),
+        &StructTable::new(alloc),
+    ) {
+        Ok(_) => Ok(None),
+        Err(fault) => Ok(Some(fault)),
+    }
 }
 
 #[test]
-fn shapes_are_interned_or_refused(rt: HostRuntime) -> Result<(), Memory> {
+fn arrays_are_interned_or_refused(rt: HostRuntime) -> Result<(), Memory> {
     let alloc = rt.alloc();
-    let rows = [
-        (65_535, IntKind::U8, None),
-        (65_536, IntKind::U8, Some(AreaFault::ZeroLength)),
-        (16_384, IntKind::U32, Some(AreaFault::TooLarge)),
-    ];
-    for (length, kind, fault) in rows {
-        assert_eq!(rt; fault_of(alloc, length, kind)?, fault);
-    }
-    let absent = AreaShape::Struct(Word::from_slice(alloc, b"S")?);
-    let refused = intern(alloc, &absent, &StructTable::new(alloc));
-    assert_eq!(rt; refused.err(), Some(AreaFault::LaterStruct));
+    assert_eq!(rt; fault_of(alloc, 65_535, IntKind::U8)?, None);
+    assert_eq!(rt;
+        fault_of(alloc, 65_536, IntKind::U8)?,
+        Some(AreaFault::ZeroLength)
+    );
+    assert_eq!(rt;
+        fault_of(alloc, 16_384, IntKind::U32)?,
+        Some(AreaFault::TooLarge)
+    );
     Ok(())
 }
 
 #[test]
-fn copies_are_the_same(rt: HostRuntime) -> Result<(), Memory> {
+fn an_absent_struct_is_refused(rt: HostRuntime) -> Result<(), Memory> {
+    let alloc = rt.alloc();
+    let absent = AreaShape::Struct(Word::from_slice(alloc, b"S")?);
+    let fault = intern(alloc, &absent, &StructTable::new(alloc));
+    assert_eq!(rt; fault.err(), Some(AreaFault::LaterStruct));
+    Ok(())
+}
+
+fn is_struct(shape: &AreaShape) -> bool {
+    match shape {
+        AreaShape::Struct(name) => name.len() == 1,
+        AreaShape::Stored(_) | AreaShape::Array(_, _) => false,
+    }
+}
+
+#[test]
+fn a_table_is_copied(rt: HostRuntime) -> Result<(), Memory> {
     let alloc = rt.alloc();
     let mut table = pair_table(alloc)?;
     table.add_word(IntKind::U16)?;
     let copy = table.copy(alloc)?;
     assert_eq!(rt; (copy.structs.len(), copy.words.len()), (1, 1));
+    Ok(())
+}
+
+#[test]
+fn shapes_and_types_are_copied(rt: HostRuntime) -> Result<(), Memory> {
+    let alloc = rt.alloc();
     let shape = AreaShape::Struct(Word::from_slice(alloc, b"S")?);
-    assert!(rt; matches!(shape.copy(alloc)?, AreaShape::Struct(name) if name.len() == 1));
+    let shape_copy = shape.copy(alloc)?;
+    assert!(rt; is_struct(&shape_copy));
     let reference = ValueType::Ref(RefType {
         constant: true,
         region: Region::Param(1),
         area: Area::Struct(0),
     });
-    assert!(rt; reference.copy(alloc)?.same(&reference));
+    let reference_copy = reference.copy(alloc)?;
+    assert!(rt; reference_copy.same(&reference));
     Ok(())
 }

@@ -10,16 +10,20 @@ use statement_parser::{Part, in_parens, type_text};
 use std::alloc::Global;
 
 /// A parameter with its type.
-struct Parameter;
+struct TypedName;
 
-impl Part for Parameter {
+impl Part for TypedName {
     ghost use Rattle.module_grammar.specs.ItemReader.{parameter};
 
     type Value = Param;
 
     ghost reader = { parameter };
 
-    fn read(alloc: Global, levels: usize, tokens: &[Token]) -> Result<(Param, &[Token]), Fault<'_>> {
+    fn read(
+        alloc: Global,
+        levels: usize,
+        tokens: &[Token],
+    ) -> Result<(Param, &[Token]), Fault<'_>> {
         parameter(alloc, levels, tokens)
     }
 }
@@ -60,7 +64,7 @@ pub fn header(
     ensures { Gives result (reader.header levels tokens.now) }
 {
     let (name, rest) = name(alloc, tokens)?;
-    let (params, rest) = in_parens::<Parameter>(alloc, levels, rest)?;
+    let (params, rest) = in_parens::<TypedName>(alloc, levels, rest)?;
     let (result, rest) = result_type(alloc, levels, rest)?;
     let header = Header {
         name,

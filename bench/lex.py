@@ -50,16 +50,16 @@ def main():
         if not shutil.which(tool):
             sys.exit(f"{tool} is not installed")
     with tempfile.TemporaryDirectory() as folder:
-        for crate in ("iv_base", "ivory_lexer"):
+        for crate in ("iv_words", "ivory_lexer"):
             shutil.copytree(os.path.join(TOP, "crates", crate), os.path.join(folder, "crates", crate), ignore=shutil.ignore_patterns("out"))
         os.makedirs(os.path.join(folder, "crates", "lex_bench", "src"))
         with open(os.path.join(folder, "crates", "lex_bench", "src", "main.rt"), "w") as file:
             file.write(MAIN)
         shutil.copy(os.path.join(TOP, "HANDLES"), folder)
         with open(os.path.join(TOP, "crates.txt")) as file:
-            lines = [line for line in file if re.match(r"(iv_base|ivory_lexer)\b", line)]
+            lines = [line for line in file if re.match(r"(iv_words|ivory_lexer)\b", line)]
         with open(os.path.join(folder, "crates.txt"), "w") as file:
-            file.writelines(lines + ["lex_bench: iv_base ivory_lexer\n"])
+            file.writelines(lines + ["lex_bench: iv_words ivory_lexer\n"])
         built = subprocess.run(["rt", "run"], cwd=os.path.join(folder, "crates", "lex_bench"), stdin=subprocess.DEVNULL,
                                stdout=subprocess.PIPE, stderr=subprocess.STDOUT, text=True)
         program = os.path.join(folder, "crates", "lex_bench", "out", "lex_bench")

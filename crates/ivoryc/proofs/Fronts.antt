@@ -2,6 +2,7 @@
 use Rattle.std.proofs.Common.{◌≡◌, ℕ, ◌+◌, ◌≤◌, List, [], length, take, Option, Some, None, refl, sym, ◌∙◌, ap, subst, arith}
 use Rattle.std.proofs.lemmas.List.{take_all, length-take}
 use Rattle.iv_base.specs.Stores.{FileMap, text_of, Gives}
+use Rattle.ivory_lexer.specs.Limits.{source_limit}
 use Rattle.ivoryc.specs.Calls.{StandsUnder}
 use Rattle.module_text.specs.Verdicts.{Verdict, Judged, too_long, not_cut, unexpected, too_deep, reads}
 
@@ -17,13 +18,13 @@ short_front most front text is short =
     is ∙ take_all (most + 1) text (omega arith)
 
 -- a short front with its verdict
-whole : (front text : List ℕ) (v : Verdict) → front ≡ take (262144 + 1) text → length front ≤ 262144 → Judged front v → Judged text v
-whole front text v is short j = let Says : List ℕ → Type 0 = λ t. Judged t v in subst Says (short_front 262144 front text is short) j
+whole : (front text : List ℕ) (v : Verdict) → front ≡ take (source_limit + 1) text → length front ≤ source_limit → Judged front v → Judged text v
+whole front text v is short j = let Says : List ℕ → Type 0 = λ t. Judged t v in subst Says (short_front source_limit front text is short) j
 
-of_front : (front text : List ℕ) (v : Verdict) → front ≡ take (262144 + 1) text → Judged front v → Judged text v
+of_front : (front text : List ℕ) (v : Verdict) → front ≡ take (source_limit + 1) text → Judged front v → Judged text v
 of_front front text v is (too_long long) =
-    let e : length front ≡ length (take (262144 + 1) text) = ap length is in
-    let l = length-take (262144 + 1) text in
+    let e : length front ≡ length (take (source_limit + 1) text) = ap length is in
+    let l = length-take (source_limit + 1) text in
     too_long (omega arith)
 of_front front text v is (not_cut short fault line) = whole front text _ is short (not_cut short fault line)
 of_front front text v is (unexpected short cut at none) = whole front text _ is short (unexpected short cut at none)
@@ -36,6 +37,6 @@ pub record VerdictStands (holds : Option FileMap) (file : List ℕ) (v : Verdict
   pub stands : StandsUnder holds file text
   pub judged : Judged text v
 
-pub verdict_stands : (holds : Option FileMap) (file front : List ℕ) (v : Verdict) → Gives holds file 262144 front → Judged front v → VerdictStands holds file v
+pub verdict_stands : (holds : Option FileMap) (file front : List ℕ) (v : Verdict) → Gives holds file source_limit front → Judged front v → VerdictStands holds file v
 verdict_stands None file front v gives j = record { text = front; stands = tt; judged = j }
 verdict_stands (Some files) file front v gives j = record { text = text_of (files file); stands = refl; judged = of_front front (text_of (files file)) v gives j }

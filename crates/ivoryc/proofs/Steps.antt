@@ -7,6 +7,7 @@ use Rattle.c_ast.specs.View.{unit_of}
 use Rattle.c_text.specs.Spelling.{unit_text}
 use Rattle.c_text.proofs.Unique.{one_unit}
 use Rattle.c_text.specs.ReadsBack.{ReadsBack}
+use Rattle.ivory_lexer.specs.Limits.{source_limit}
 use Rattle.ivoryc.specs.declared.command.Command.TheVariants.{Emit}
 use Rattle.ivoryc.specs.declared.refusal.Refusal.{Refusal}
 use Rattle.ivoryc.specs.declared.refusal.Refusal.TheVariants as refusal
@@ -38,14 +39,14 @@ is_compiled text u is =
       only = λ v spells. one_unit v (unit_of u) spells.in_subset is.compiled.reads_back.spelled.in_subset (sym spells.is);
     }
 
-judged_so : (file front seen : List ℕ) (store : Change StoreSeen) (out : Change SinkSeen) (v : Verdict) → Gives store.before.holds file 262144 front
+judged_so : (file front seen : List ℕ) (store : Change StoreSeen) (out : Change SinkSeen) (v : Verdict) → Gives store.before.holds file source_limit front
     → seen ≡ front → Judged seen v → Unchanged out → IsJudged v file store out
 judged_so file front seen store out v gives is j same =
     let Says : List ℕ → Type 0 = λ t. Judged t v in
     let found = verdict_stands store.before.holds file front v gives (subst Says is j) in
     record { text = found.text; stands = found.stands; judged = found.judged; out = same }
 
-pub emitted_unmade : (file front seen : List ℕ) (store : Change StoreSeen) (out : Change SinkSeen) (r : Refusal) → Gives store.before.holds file 262144 front
+pub emitted_unmade : (file front seen : List ℕ) (store : Change StoreSeen) (out : Change SinkSeen) (r : Refusal) → Gives store.before.holds file source_limit front
     → seen ≡ front → Made seen (Err r) → Unchanged out → Emitted file store out (Err r)
 emitted_unmade file front seen store out refusal.Words gives is made same = absurd made
 emitted_unmade file front seen store out refusal.ReadFault gives is made same = absurd made
@@ -58,7 +59,7 @@ emitted_unmade file front seen store out refusal.NotBuilt gives is made same =
     let found = verdict_stands store.before.holds file front (Reads made.tree) gives (subst Says is made.read) in
     record { text = found.text; stands = found.stands; unbuilt = record { tree = made.tree; read = found.judged; none = made.none }; out = same }
 
-has_text : (file front seen : List ℕ) (store : Change StoreSeen) (u : CUnit) → Gives store.before.holds file 262144 front → seen ≡ front → IsUnitOf seen u
+has_text : (file front seen : List ℕ) (store : Change StoreSeen) (u : CUnit) → Gives store.before.holds file source_limit front → seen ≡ front → IsUnitOf seen u
     → (has : HasText file store) × (has.bytes ≡ unit_text (unit_of u))
 has_text file front seen store u gives same is =
     let Says : List ℕ → Type 0 = λ t. Judged t (Reads is.form.tree) in
@@ -74,7 +75,7 @@ has_text file front seen store u gives same is =
     )
 
 pub emitted_written : (file text seen : List ℕ) (store : Change StoreSeen) (out : Change SinkSeen) (u : CUnit) (r : Result (Unit {0}) Refusal)
-    → Gives store.before.holds file 262144 text → seen ≡ text → IsUnitOf seen u → Written (unit_text (unit_of u)) out r → Emitted file store out r
+    → Gives store.before.holds file source_limit text → seen ≡ text → IsUnitOf seen u → Written (unit_text (unit_of u)) out r → Emitted file store out r
 emitted_written file text seen store out u (Ok done) gives same is written =
     let found = has_text file text seen store u gives same is in
     let Takes : List ℕ → Type 0 = λ bytes. Took out bytes in

@@ -9,9 +9,10 @@ use crate::refusal::Refusal;
 use c_ast::{CUnit, Target};
 use c_lower::lower;
 use c_writer::write_unit;
-use first_form::first_form;
+use first_form::{FirstModule, first_form};
 use iv_base::{Sink, Store};
 use iv_words::Word;
+use ivory_tree::Module;
 use module_text::{SOURCE_LIMIT, read_module};
 use std::alloc::Global;
 
@@ -27,7 +28,9 @@ pub fn emit<S: Store, K: Sink>(
 {
     let text = load(alloc, file, SOURCE_LIMIT, store)?;
     let unit = compile(alloc, text.as_slice())?;
-    write(&unit, out)
+    let written = write(&unit, out);
+    give_up_unit(unit);
+    written
 }
 
 /// The first bytes under a name, up to one past the limit.
@@ -44,10 +47,44 @@ fn compile(alloc: Global, text: &[u8]) -> Result<CUnit, Refusal>
     ensures { Made text.now result }
 {
     let tree = read_module(alloc, text)?;
-    match first_form(alloc, &tree)? {
-        Some(module) => Ok(lower(alloc, &module, Target::T32)?),
+    let form = first_form(alloc, &tree)?;
+    give_up_tree(tree);
+    match form {
+        Some(module) => {
+            let unit = lower(alloc, &module, Target::T32)?;
+            give_up_module(module);
+            Ok(unit)
+        }
         None => Err(Refusal::NotBuilt),
     }
+}
+
+// The call is the last that the program does: to free what is left of it, part by part, would take a seventh of a run.
+
+fn give_up_tree(tree: Module) {
+    let Module {
+        name: _,
+        items,
+        span: _,
+    } = tree;
+    items.leak();
+}
+
+fn give_up_module(module: FirstModule) {
+    let FirstModule { imports, procs } = module;
+    imports.leak();
+    procs.leak();
+}
+
+fn give_up_unit(unit: CUnit) {
+    let CUnit {
+        structs: _,
+        externs,
+        objects: _,
+        functions,
+    } = unit;
+    externs.leak();
+    functions.leak();
 }
 
 /// Writes the text of a unit.

@@ -37,7 +37,10 @@ fn read(alloc: Global, text: &[u8]) -> Result<Module, TextFault>
         return Err(TextFault::TooLarge);
     }
     let tokens = cut(alloc, text)?;
-    tree_of(alloc, text, &tokens)
+    let tree = tree_of(alloc, text, &tokens);
+    // A run reads one module: to free the name of each token would cost more than it gives.
+    tokens.leak();
+    tree
 }
 
 /// The tokens of a text.

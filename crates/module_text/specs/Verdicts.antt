@@ -53,3 +53,11 @@ pub data Judged (text : List ℕ) : Verdict → Type 0 where
   too_deep : {ts : List Token} {i : ℕ} → length text ≤ source_limit → TokensOf 0 text ts → TooDeepAt Text signs nesting_limit ts i
       → Judged text (Faulty (fault_line (fault_at text (token_start text ts i) TooDeep)))
   reads : {ts : List Token} {tree : Module} → length text ≤ source_limit → TokensOf 0 text ts → SpelledWithin Text nesting_limit tree ts → Judged text (Reads tree)
+
+-- of a text one verdict holds, and no other
+pub record ExactlyOne (text : List ℕ) : Type 0 where
+  pub one : (v : Verdict) × Judged text v
+  pub same : (v w : Verdict) → Judged text v → Judged text w → v ≡ w
+
+abbrev pub EachTextHasOneVerdict : Type 0
+EachTextHasOneVerdict = (text : List ℕ) → ExactlyOne text

@@ -2,7 +2,9 @@
 #![tactic(auto)]
 
 mod fault;
+mod laws;
 mod read;
 
 pub use fault::{Fault, TextFault, Why};
+pub use laws::each_text_has_one_verdict;
 pub use read::{SOURCE_LIMIT, read_module};

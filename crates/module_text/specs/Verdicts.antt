@@ -8,7 +8,6 @@ use Rattle.ivory_tree.specs.declared.Module.{Module}
 use Rattle.reading.specs.Exact.{SpelledWithin, UnexpectedAt, TooDeepAt}
 use Rattle.expression_grammar.specs.Tokens.{signs}
 use Rattle.module_grammar.specs.Modules.{Text}
-use Rattle.module_text.specs.declared.fault.Why.{Why}
 use Rattle.module_text.specs.declared.fault.Why.TheVariants.{BadByte, LongName, BigLiteral, OpenComment, Unexpected, TooDeep}
 use Rattle.module_text.specs.Lines.{fault_at, fault_line}
 

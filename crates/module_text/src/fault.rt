@@ -6,9 +6,9 @@ ghost use Rattle.iv_base.specs.Sinks.{grown, GrewByPrefix, HasCause};
 ghost use Rattle.module_text.specs.Lines.{words_of, fault_line, fault_at};
 
 use arrayvec::ArrayString;
+use itoa::Buffer;
 use iv_base::{Sink, SinkFault};
 use iv_words::line_of;
-use itoa::Buffer;
 
 /// A line has two numbers of ten digits at most, three bytes between, and the words.
 const LONGEST_LINE: usize = 40;

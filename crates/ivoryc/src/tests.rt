@@ -104,19 +104,43 @@ const FAULTS: [(&[u8], &[u8]); 16] = [
     (b"", b"1:1: unexpected token\n"),
     (b"-- module", b"1:10: unexpected token\n"),
     (b"module m", b"1:9: unexpected token\n"),
-    (b"module m;\nexport proc main() {", b"2:21: unexpected token\n"),
-    (b"module m; proc f() { let x = 1 }", b"1:32: unexpected token\n"),
+    (
+        b"module m;\nexport proc main() {",
+        b"2:21: unexpected token\n",
+    ),
+    (
+        b"module m; proc f() { let x = 1 }",
+        b"1:32: unexpected token\n",
+    ),
     (b"module m; export area", b"1:18: unexpected token\n"),
-    (b"module m; proc f() { let x = a+; }", b"1:32: unexpected token\n"),
-    (b"module m; bitdata B : bool { a : 1 }", b"1:23: unexpected token\n"),
+    (
+        b"module m; proc f() { let x = a+; }",
+        b"1:32: unexpected token\n",
+    ),
+    (
+        b"module m; bitdata B : bool { a : 1 }",
+        b"1:23: unexpected token\n",
+    ),
     (b"module m; @", b"1:11: bad byte\n"),
     (b"module m;\n\n \xc3\xa4", b"3:2: bad byte\n"),
     (b"/* x", b"1:1: open comment\n"),
     (b"module m; /* * / /*", b"1:11: open comment\n"),
-    (b"module m; area a : uint8_t = 18446744073709551616;", b"1:30: big literal\n"),
-    (b"module m; area a : uint8_t = 0x10000000000000000;", b"1:30: big literal\n"),
-    (b"module abcdefghijklmnopqrstuvwxyzabc;", b"1:8: long name\n"),
-    (b"module m; abcdefghijklmnopqrstuvwxyzabc @", b"1:11: long name\n"),
+    (
+        b"module m; area a : uint8_t = 18446744073709551616;",
+        b"1:30: big literal\n",
+    ),
+    (
+        b"module m; area a : uint8_t = 0x10000000000000000;",
+        b"1:30: big literal\n",
+    ),
+    (
+        b"module abcdefghijklmnopqrstuvwxyzabc;",
+        b"1:8: long name\n",
+    ),
+    (
+        b"module m; abcdefghijklmnopqrstuvwxyzabc @",
+        b"1:11: long name\n",
+    ),
 ];
 
 /// How a call ended, and what it wrote.
@@ -198,7 +222,10 @@ fn reads_each_form(rt: HostRuntime) -> Result<(), Memory> {
     let body = b"module m; proc f() { ";
     assert_eq!(rt; read(alloc, body, &STATEMENTS, b" }")?, STATEMENTS.len());
     let value = b"module m; proc f() { let x = ";
-    assert_eq!(rt; read(alloc, value, &EXPRESSIONS, b"; }")?, EXPRESSIONS.len());
+    assert_eq!(rt;
+        read(alloc, value, &EXPRESSIONS, b"; }")?,
+        EXPRESSIONS.len()
+    );
     Ok(())
 }
 
@@ -222,7 +249,10 @@ fn compiles(rt: HostRuntime) -> Result<(), Memory> {
     let alloc = rt.alloc();
     let words = emit(alloc, b"a.iv")?;
     for text in COMPILED {
-        assert_eq!(rt; call(alloc, &words, word(alloc, text)?, 1000)?.status, Status::Done);
+        assert_eq!(rt;
+            call(alloc, &words, word(alloc, text)?, 1000)?.status,
+            Status::Done
+        );
     }
     let longest = padded(alloc, b"module m;", b' ', 262_135)?;
     assert_eq!(rt; call(alloc, &words, longest, 1000)?.status, Status::Done);

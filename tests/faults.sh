@@ -9,7 +9,7 @@ failed=0
 
 # expect STATUS LINE: what `emit` says of the text in $work/a.iv
 expect() {
-  "$top/ivoryc" emit "$work/a.iv" >"$work/out" 2>"$work/err"
+  "$program" emit "$work/a.iv" >"$work/out" 2>"$work/err"
   local status=$?
   if [ "$status" != "$1" ] || [ "$(cat "$work/err")" != "$2" ]; then
     echo "faults: wanted $1 '$2', got $status '$(cat "$work/err")' of: $(head -c 100 "$work/a.iv")"
@@ -20,6 +20,8 @@ expect() {
     failed=1
   fi
 }
+
+program=$top/crates/ivoryc/out/ivoryc
 
 text() { printf '%b' "$1" >"$work/a.iv"; }
 
@@ -34,6 +36,14 @@ text '/* x'; expect 1 '1:1: open comment'
 text 'module m; area a : uint8_t = 18446744073709551616;'; expect 1 '1:30: big literal'
 text 'module abcdefghijklmnopqrstuvwxyzabc;'; expect 1 '1:8: long name'
 text 'module m; export area'; expect 1 '1:18: unexpected token'
+text '-- module'; expect 1 '1:10: unexpected token'
+text 'module m'; expect 1 '1:9: unexpected token'
+text 'module m; proc f() { let x = a+; }'; expect 1 '1:32: unexpected token'
+text 'module m; bitdata B : bool { a : 1 }'; expect 1 '1:23: unexpected token'
+text 'module m;\n\n \xc3\xa4'; expect 1 '3:2: bad byte'
+text 'module m; /* * / /*'; expect 1 '1:11: open comment'
+text 'module m; area a : uint8_t = 0x10000000000000000;'; expect 1 '1:30: big literal'
+text 'module m; abcdefghijklmnopqrstuvwxyzabc @'; expect 1 '1:11: long name'
 text 'module abcdefghijklmnopqrstuvwxyzab;'; expect 0 ''
 text 'module m; -- empty'; expect 0 ''
 text 'module\tm /* a\r\n */ ;\nimport p(x : uint8_t);\nexport proc q() { p(0xFf); p(007); }'; expect 0 ''
@@ -46,7 +56,7 @@ closes() { printf '%*s' "$1" '' | tr ' ' ')'; }
 text "module m;\nexport proc f() -> bool { return $(opens 31)true$(closes 31); }"; expect 8 'not built yet'
 text "module m;\nexport proc f() -> bool { return $(opens 32)true$(closes 32); }"; expect 1 '2:65: too deep'
 
-"$top/ivoryc" run a b 100000001 >"$work/out" 2>"$work/err"
+"$program" run a b 100000001 >"$work/out" 2>"$work/err"
 [ $? = 2 ] || { echo "faults: a word that is no command"; failed=1; }
 
 # A cut is a module where the first line or an item ends, and one byte later: the line end.
@@ -56,8 +66,12 @@ size=$(wc -c <"$driver")
 modules=""
 for ((length = 0; length <= size; length++)); do
   head -c "$length" "$driver" >"$work/a.iv"
-  "$top/ivoryc" emit "$work/a.iv" >/dev/null 2>&1
-  [ $? = 1 ] || modules="$modules $length"
+  "$program" emit "$work/a.iv" >/dev/null 2>&1
+  case $? in
+    0 | 8) modules="$modules $length" ;;
+    1) ;;
+    *) echo "faults: another status for the first $length bytes of the driver"; failed=1 ;;
+  esac
 done
 ends=""
 at=0

@@ -1,5 +1,4 @@
 pub mod Verdicts
-pub mod Parts
 pub mod Places
 pub mod Told
 pub mod Trees

@@ -1,11 +1,10 @@
 -- The tree of a text is one of tokens in order.
-use Rattle.std.proofs.Common.{◌≡◌, ℕ, ◌+◌, ◌*◌, ◌≤◌, List, length, subst, arith, Result, Ok, Err}
+use Rattle.std.proofs.Common.{ℕ, ◌+◌, List, length, arith, Result, Ok, Err}
 use Rattle.std.specs.Prelude.{IfOk}
 use Rattle.ivory_lexer.specs.Texts.{TokensOf}
 use Rattle.ivory_lexer.specs.Tokens.{InOrder}
 use Rattle.ivory_lexer.specs.declared.Token.{Token}
 use Rattle.ivory_lexer.proofs.Order.{in_order, few}
-use Rattle.ivory_tree.specs.Nodes.{module_nodes, nodes_count}
 use Rattle.ivory_tree.specs.View.{module_of}
 use Rattle.ivory_tree.specs.declared.Module.{Module}
 use Rattle.reading.specs.Exact.{SpelledWithin}

@@ -10,7 +10,6 @@ use Rattle.reading.specs.Exact.{SpelledWithin, UnexpectedAt, TooDeepAt}
 use Rattle.expression_grammar.specs.Tokens.{signs}
 use Rattle.module_grammar.specs.Modules.{Text}
 use Rattle.module_grammar.specs.Parse.{levels}
-use Rattle.module_text.specs.declared.fault.Why.{Why}
 use Rattle.module_text.specs.declared.fault.Why.TheVariants.{BadByte, LongName, BigLiteral, OpenComment, Unexpected, TooDeep}
 use Rattle.module_text.specs.Lines.{fault_at, fault_line}
 
@@ -48,3 +47,11 @@ pub data Judged (text : List ℕ) : Verdict → Type 0 where
   too_deep : {ts : List Token} {i : ℕ} → length text ≤ source_limit → TokensOf 0 text ts → TooDeepAt Text signs levels ts i
       → Judged text (Faulty (fault_line (fault_at text (token_start text ts i) TooDeep)))
   reads : {ts : List Token} {tree : Module} → length text ≤ source_limit → TokensOf 0 text ts → SpelledWithin Text levels tree ts → Judged text (Reads tree)
+
+-- of a text one verdict holds, and no other
+pub record ExactlyOne (text : List ℕ) : Type 0 where
+  pub one : (v : Verdict) × Judged text v
+  pub same : (v w : Verdict) → Judged text v → Judged text w → v ≡ w
+
+abbrev pub EachTextHasOneVerdict : Type 0
+EachTextHasOneVerdict = (text : List ℕ) → ExactlyOne text

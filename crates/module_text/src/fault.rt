@@ -1,14 +1,18 @@
 //! A fault of a text: where it is, and what is wrong there.
 
-ghost use Rattle.std.specs.Prelude.{◌≡◌, ◌≤◌, ◌+◌, ◌++◌, ◌∷◌, [], pos, length, OnOk, OnErr};
-ghost use Rattle.std.specs.Fmt.{signed_decimal};
+ghost use Rattle.std.specs.Prelude.{◌≡◌, ◌≤◌, ◌+◌, ◌++◌, ◌∷◌, [], length, OnOk, OnErr};
 ghost use Rattle.ivory_lexer.specs.Limits.{source_limit};
 ghost use Rattle.iv_base.specs.Counts.{capped};
 ghost use Rattle.iv_base.specs.Sinks.{grown, GrewByPrefix, HasCause};
 ghost use Rattle.module_text.specs.Lines.{words_of, fault_line, fault_at};
 
-use iv_base::{Sink, SinkFault, put_number};
+use arrayvec::ArrayString;
+use itoa::Buffer;
+use iv_base::{Sink, SinkFault};
 use iv_words::line_of;
+
+/// A line has two numbers of ten digits at most, three bytes between, and the words.
+const LONGEST_LINE: usize = 40;
 
 /// What is wrong at a place of a text.
 #[derive(Clone, Copy, Debug, Drop, PartialEq, Eq)]
@@ -51,41 +55,42 @@ impl Fault {
         Fault { line, column, why }
     }
 
-    /// Puts the line of the fault, `LINE:COLUMN: WHY` and a line end. It refuses as `put` does.
+    /// Puts the line of the fault, `LINE:COLUMN: WHY` and a line end, in one piece. It refuses as `put` does.
     pub fn put<E: Sink>(&self, err: &mut E) -> Result<(), SinkFault>
         ensures held { OnOk result (E.held err.new ≡ grown (E.held err.old) (fault_line self.now)) }
         ensures taken { OnOk result (E.taken err.new ≡ capped (E.taken err.old + length (fault_line self.now))) }
         ensures part { OnErr result (GrewByPrefix (E.held err.old) (E.held err.new) (fault_line self.now)) }
         ensures cause { HasCause (E.faults err.old) (E.faults err.new) result }
     {
-        put_count(self.line, err)?;
-        err.put(b":")?;
-        put_count(self.column, err)?;
-        err.put(b": ")?;
-        err.put(words(self.why))
+        err.put(self.text().as_bytes())
+    }
+
+    /// The line of the fault.
+    fn text(&self) -> ArrayString<LONGEST_LINE>
+        ensures { result.bytes ≡ fault_line self.now }
+    {
+        let mut number = Buffer::new();
+        let mut text = ArrayString::new();
+        text.push_str(number.format(self.line));
+        text.push_str(":");
+        text.push_str(number.format(self.column));
+        text.push_str(": ");
+        text.push_str(words(self.why));
+        text
     }
 }
 
-/// Puts a number from 0. It refuses as `put` does.
-fn put_count<E: Sink>(n: u32, err: &mut E) -> Result<(), SinkFault>
-    ensures held { OnOk result (E.held err.new ≡ grown (E.held err.old) (signed_decimal (pos n))) }
-    ensures taken { OnOk result (E.taken err.new ≡ capped (E.taken err.old + length (signed_decimal (pos n)))) }
-    ensures part { OnErr result (GrewByPrefix (E.held err.old) (E.held err.new) (signed_decimal (pos n))) }
-    ensures cause { HasCause (E.faults err.old) (E.faults err.new) result }
-{
-    put_number(i128::from(n), err)
-}
-
 /// What is wrong, in words, and a line end.
-fn words(why: Why) -> &'static [u8]
-    ensures { result.now ≡ words_of why ++ 10 ∷ [] }
+fn words(why: Why) -> &'static str
+    ensures is { result.now ≡ words_of why ++ 10 ∷ [] }
+    ensures short { length result.now ≤ 17 }
 {
     match why {
-        Why::BadByte => b"bad byte\n",
-        Why::LongName => b"long name\n",
-        Why::BigLiteral => b"big literal\n",
-        Why::OpenComment => b"open comment\n",
-        Why::Unexpected => b"unexpected token\n",
-        Why::TooDeep => b"too deep\n",
+        Why::BadByte => "bad byte\n",
+        Why::LongName => "long name\n",
+        Why::BigLiteral => "big literal\n",
+        Why::OpenComment => "open comment\n",
+        Why::Unexpected => "unexpected token\n",
+        Why::TooDeep => "too deep\n",
     }
 }

@@ -22,6 +22,8 @@ use Rattle.c_meaning.specs.State.{Program, CState}
 use Rattle.c_meaning.specs.Expressions.{eval}
 use Rattle.iv_words.proofs.Widths.{kind_at_width}
 use Rattle.c_ast.proofs.Conversions.{held_stays}
+use Rattle.c_meaning.proofs.Names.{name_type_is, name_gives}
+use Rattle.overflow_checks.specs.Laws.{NamesStandFor}
 use Rattle.overflow_checks.specs.Contract.{IsOperand, IsGiven, StandsFor}
 use Rattle.overflow_checks.specs.Parts.{cast_to, operand_of}
 
@@ -73,3 +75,6 @@ module _ (p : Program) (s : CState) where
   operand_is_given kind (Binary op a b) v o h = h
   operand_is_given kind (Cast to e) v o h = h
   operand_is_given kind (Cond c a b) v o h = h
+
+pub names_stand_for : NamesStandFor
+names_stand_for p s kind x v e h = record { gives = name_gives p s x (Num (of_kind kind) v) e; type = name_type_is p s x (Num (of_kind kind) v) e; is_in = h }

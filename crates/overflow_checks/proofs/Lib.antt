@@ -24,3 +24,4 @@ pub mod GuardRows
 pub mod ComputationRows
 pub mod Made
 pub mod Checked
+pub mod Operands

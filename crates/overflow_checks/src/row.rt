@@ -99,6 +99,7 @@ impl<const BITS: u32, const SIGNED: bool> Row<BITS, SIGNED> {
     }
 
     /// The operand as a value of the kind's type.
+    #[tactic(auto, using(crate::proofs::Operands::constant_is_cast, crate::proofs::Operands::other_stays))]
     pub fn operand(alloc: Global, e: CExpr) -> Result<CExpr, Memory>
         ensures { IfOk result (λ r. expr_of r ≡ parts.operand_of BITS SIGNED (expr_of e)) }
     {

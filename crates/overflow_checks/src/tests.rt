@@ -1,4 +1,4 @@
-ghost use Rattle.std.specs.Prelude.{◌≡◌, ◌≤◌, pos, IfOk, IsTrue};
+ghost use Rattle.std.specs.Prelude.{◌≡◌, pos, IfOk, IsTrue};
 ghost use Rattle.iv_words.specs.Kinds.{in_range};
 ghost use Rattle.c_ast.specs.View.{expr_of};
 ghost use Rattle.c_ast.specs.declared.Target.TheVariants.{T32};
@@ -6,269 +6,108 @@ ghost use Rattle.overflow_checks.specs.Checks as checks;
 ghost use Rattle.overflow_checks.specs.Contract.{IsOperand};
 
 use crate::{compute, guard};
-use c_ast::{
-    Arith, CBinary, CExpr, CKind, CPlace, CScalar, CType, CUnary, Suffix, Target, common, convert,
-    promote,
-};
-use int_ops::{Op, Stop, allowed, apply, fits};
+use c_ast::{CBinary, CExpr, CPlace, CUnary, Suffix, Target};
+use int_ops::{Op, Stop, allowed, fits};
 use iv_words::{IntKind, Memory, Word};
 use std::alloc::Global;
-use std::process::Abort;
 
-const TARGET: Target = Target::T32;
+// ---- expressions as texts, in which a cast is `c` and an operator has one byte
 
-const KINDS: [IntKind; 8] = [
-    IntKind::U8,
-    IntKind::U16,
-    IntKind::U32,
-    IntKind::U64,
-    IntKind::I8,
-    IntKind::I16,
-    IntKind::I32,
-    IntKind::I64,
+fn symbol(op: CBinary) -> u8 {
+    match op {
+        CBinary::Add => b'+',
+        CBinary::Sub => b'-',
+        CBinary::Mul => b'*',
+        CBinary::Div => b'/',
+        CBinary::Xor => b'^',
+        CBinary::And => b'&',
+        CBinary::Shr => b'>',
+        CBinary::Eq => b'=',
+        CBinary::Ne => b'#',
+        CBinary::Lt => b'l',
+        CBinary::Le => b'L',
+        CBinary::Ge => b'G',
+        CBinary::AndAlso => b'A',
+        CBinary::OrElse => b'O',
+        _ => b'x',
+    }
+}
+
+const UNITS: [u64; 20] = [
+    10000000000000000000,
+    1000000000000000000,
+    100000000000000000,
+    10000000000000000,
+    1000000000000000,
+    100000000000000,
+    10000000000000,
+    1000000000000,
+    100000000000,
+    10000000000,
+    1000000000,
+    100000000,
+    10000000,
+    1000000,
+    100000,
+    10000,
+    1000,
+    100,
+    10,
+    1,
 ];
 
-const OPS: [Op; 21] = [
-    Op::Add,
-    Op::Sub,
-    Op::Mul,
-    Op::Div,
-    Op::Rem,
-    Op::Shl,
-    Op::Shr,
-    Op::And,
-    Op::Or,
-    Op::Xor,
-    Op::Neg,
-    Op::Not,
-    Op::WrapAdd,
-    Op::WrapSub,
-    Op::WrapMul,
-    Op::Eq,
-    Op::Ne,
-    Op::Lt,
-    Op::Le,
-    Op::Gt,
-    Op::Ge,
-];
-
-const STOPS: [Stop; 3] = [Stop::DivZero, Stop::Shift, Stop::Overflow];
-
-// The least and the greatest number and what is next to them, what is around 0, and what is around the width.
-fn ends(kind: IntKind) -> [i128; 9] {
-    match kind {
-        IntKind::U8 => [0, 1, 0, 0, 1, 254, 255, 7, 8],
-        IntKind::U16 => [0, 1, 0, 0, 1, 65534, 65535, 15, 16],
-        IntKind::U32 => [0, 1, 0, 0, 1, 4294967294, 4294967295, 31, 32],
-        IntKind::U64 => [
-            0,
-            1,
-            0,
-            4294967296,
-            1,
-            18446744073709551614,
-            18446744073709551615,
-            63,
-            64,
-        ],
-        IntKind::I8 => [-128, -127, -1, 0, 1, 126, 127, 7, 8],
-        IntKind::I16 => [-32768, -32767, -1, 0, 1, 32766, 32767, 15, 16],
-        IntKind::I32 => [
-            -2147483648,
-            -2147483647,
-            -1,
-            0,
-            1,
-            2147483646,
-            2147483647,
-            31,
-            32,
-        ],
-        IntKind::I64 => [
-            -9223372036854775808,
-            -9223372036854775807,
-            -1,
-            0,
-            1,
-            9223372036854775806,
-            9223372036854775807,
-            63,
-            64,
-        ],
-    }
-}
-
-// ---- a plain evaluator of C on the target
-
-/// A number in the type to which its expression is promoted.
-#[derive(Clone, Copy, Drop)]
-struct Value {
-    ty: Arith,
-    number: i128,
-}
-
-/// What the names `a` and `b` hold as values of a kind.
-#[derive(Clone, Copy, Drop)]
-struct Names {
-    kind: IntKind,
-    a: i128,
-    b: i128,
-}
-
-fn of_kind(kind: IntKind, number: i128) -> Value {
-    Value {
-        ty: promote(TARGET, CScalar::Int(kind)),
-        number,
-    }
-}
-
-fn fitted(ty: Arith, number: i128) -> Option<Value> {
-    Some(Value {
-        ty,
-        number: convert(TARGET, CKind::Arith(ty), number)?,
-    })
-}
-
-fn truth(holds: bool) -> Value {
-    Value {
-        ty: Arith::Int,
-        number: i128::from(holds),
-    }
-}
-
-fn first_that_holds(types: &[Arith], number: i128) -> Option<Value> {
-    for ty in types {
-        if convert(TARGET, CKind::Arith(*ty), number) == Some(number) {
-            return Some(Value { ty: *ty, number });
+fn put_number(n: u64, out: &mut Word) -> Result<(), Memory> {
+    for &unit in &UNITS {
+        let quotient = n.checked_div(unit).unwrap_or(0);
+        if quotient > 0 || unit == 1 {
+            out.push(b'0' + (quotient % 10) as u8)?;
         }
     }
-    None
+    Ok(())
 }
 
-fn constant(n: u64, suffix: Suffix) -> Option<Value> {
-    let number = i128::from(n);
-    match suffix {
-        Suffix::Plain => first_that_holds(&[Arith::Int, Arith::Long, Arith::LongLong], number),
-        Suffix::U => first_that_holds(&[Arith::UInt, Arith::ULong, Arith::ULongLong], number),
-        Suffix::Ll => first_that_holds(&[Arith::LongLong], number),
-        Suffix::Ull => first_that_holds(&[Arith::ULongLong], number),
-    }
-}
-
-fn bits(ty: Arith) -> u32
-    ensures { result ≤ 64 }
-{
-    match ty {
-        Arith::LongLong | Arith::ULongLong => 64,
-        _ => 32,
-    }
-}
-
-fn shifted(op: CBinary, left: Value, amount: i128) -> Option<Value> {
-    let Ok(amount) = u32::try_from(amount) else {
-        return None;
-    };
-    if amount >= bits(left.ty) || left.number < 0 {
-        return None;
-    }
-    match op {
-        CBinary::Shl => fitted(left.ty, left.number.checked_mul(1i128 << amount)?),
-        _ => fitted(left.ty, left.number >> amount),
-    }
-}
-
-fn binary(op: CBinary, left: Value, right: Value) -> Option<Value> {
-    if matches!(op, CBinary::Shl | CBinary::Shr) {
-        return shifted(op, left, right.number);
-    }
-    let ty = common(TARGET, left.ty, right.ty);
-    let x = fitted(ty, left.number)?.number;
-    let y = fitted(ty, right.number)?.number;
-    match op {
-        CBinary::Add => fitted(ty, x.wrapping_add(y)),
-        CBinary::Sub => fitted(ty, x.wrapping_sub(y)),
-        CBinary::Mul => fitted(ty, x.wrapping_mul(y)),
-        CBinary::Div => fitted(ty, x.checked_div(y)?),
-        CBinary::Rem => fitted(ty, x.checked_div(y)?).and(fitted(ty, x.checked_rem(y)?)),
-        CBinary::And => fitted(ty, x & y),
-        CBinary::Or => fitted(ty, x | y),
-        CBinary::Xor => fitted(ty, x ^ y),
-        CBinary::Eq => Some(truth(x == y)),
-        CBinary::Ne => Some(truth(x != y)),
-        CBinary::Lt => Some(truth(x < y)),
-        CBinary::Le => Some(truth(x <= y)),
-        CBinary::Gt => Some(truth(x > y)),
-        CBinary::Ge => Some(truth(x >= y)),
-        _ => None,
-    }
-}
-
-fn unary(op: CUnary, operand: Value) -> Option<Value> {
-    match op {
-        CUnary::Neg => fitted(operand.ty, operand.number.wrapping_neg()),
-        CUnary::Flip => fitted(operand.ty, !operand.number),
-        CUnary::Not => Some(truth(operand.number == 0)),
-    }
-}
-
-fn cast(kind: IntKind, operand: Value) -> Option<Value> {
-    let number = convert(TARGET, CKind::Scalar(CScalar::Int(kind)), operand.number)?;
-    Some(of_kind(kind, number))
-}
-
-fn chosen(test: Value, first: Value, second: Value) -> Option<Value> {
-    let ty = common(TARGET, first.ty, second.ty);
-    let taken = if test.number != 0 { first } else { second };
-    fitted(ty, taken.number)
-}
-
-fn named(names: Names, name: &Word) -> Value {
-    let number = if name.as_slice() == b"a".as_slice() {
-        names.a
-    } else {
-        names.b
-    };
-    of_kind(names.kind, number)
-}
-
-/// The value of an expression, or none where it is undefined.
-fn evaluate(names: Names, e: &CExpr) -> Option<Value> {
+fn put(e: &CExpr, out: &mut Word) -> Result<(), Memory> {
     match e {
-        CExpr::Number(n, suffix) => constant(*n, *suffix),
-        CExpr::Read(CPlace::Var(name)) => Some(named(names, name)),
-        CExpr::Unary(op, e) => unary(*op, evaluate(names, e.get())?),
-        CExpr::Binary(CBinary::OrElse, left, right) => {
-            if evaluate(names, left.get())?.number != 0 {
-                Some(truth(true))
-            } else {
-                Some(truth(evaluate(names, right.get())?.number != 0))
+        CExpr::Number(n, suffix) => {
+            put_number(*n, out)?;
+            if *suffix == Suffix::U {
+                out.push(b'u')?;
             }
         }
-        CExpr::Binary(CBinary::AndAlso, left, right) => {
-            if evaluate(names, left.get())?.number == 0 {
-                Some(truth(false))
-            } else {
-                Some(truth(evaluate(names, right.get())?.number != 0))
-            }
+        CExpr::Read(CPlace::Var(name)) => out.extend_from_slice(name.as_slice())?,
+        CExpr::Unary(CUnary::Neg, e) => {
+            out.push(b'n')?;
+            put(e.get(), out)?;
         }
         CExpr::Binary(op, left, right) => {
-            binary(
-                *op,
-                evaluate(names, left.get())?,
-                evaluate(names, right.get())?,
-            )
+            out.push(b'(')?;
+            put(left.get(), out)?;
+            out.push(symbol(*op))?;
+            put(right.get(), out)?;
+            out.push(b')')?;
         }
-        CExpr::Cast(CType::Value(CScalar::Int(kind)), e) => cast(*kind, evaluate(names, e.get())?),
-        CExpr::Cond(test, first, second) => chosen(
-            evaluate(names, test.get())?,
-            evaluate(names, first.get())?,
-            evaluate(names, second.get())?,
-        ),
-        _ => None,
+        CExpr::Cast(_, e) => {
+            out.push(b'c')?;
+            put(e.get(), out)?;
+        }
+        CExpr::Cond(test, first, second) => {
+            out.push(b'?')?;
+            put(test.get(), out)?;
+            put(first.get(), out)?;
+            put(second.get(), out)?;
+        }
+        _ => out.push(b'_')?,
     }
+    Ok(())
 }
 
-// ---- all rows
+fn text(alloc: Global, e: &CExpr) -> Result<Word, Memory> {
+    let mut out = Word::new(alloc);
+    put(e, &mut out)?;
+    Ok(out)
+}
+
+// ---- operands
 
 fn is_check(op: Op, kind: IntKind, which: Stop) -> bool
     ensures { result ≡ checks.is_check op kind which }
@@ -289,7 +128,7 @@ fn is_check(op: Op, kind: IntKind, which: Stop) -> bool
     }
 }
 
-#[tactic(auto, using(c_ast::proofs::View::read_is, c_ast::proofs::View::var_is))]
+#[tactic(auto, using(c_ast::proofs::View::read_is))]
 fn name(alloc: Global, kind: IntKind, letter: u8) -> Result<CExpr, Memory>
     ensures { IfOk result (λ e. IsOperand T32 kind (expr_of e)) }
 {
@@ -298,189 +137,153 @@ fn name(alloc: Global, kind: IntKind, letter: u8) -> Result<CExpr, Memory>
     Ok(CExpr::Read(CPlace::Var(name)))
 }
 
-fn constant_operand(kind: IntKind, n: u64) -> CExpr
+#[tactic(auto, using(c_ast::proofs::View::number_is))]
+fn constant(kind: IntKind, n: u64) -> CExpr
     requires { IsTrue (in_range kind (pos n)) }
     ensures { IsOperand T32 kind (expr_of result) }
 {
     CExpr::Number(n, Suffix::U)
 }
 
-/// A number as a constant where it can be one, else a name.
-fn operand(
-    alloc: Global,
-    kind: IntKind,
-    letter: u8,
-    number: i128,
-    as_constant: bool,
-) -> Result<CExpr, Memory>
+/// A constant where there is a number that the kind has, else a name.
+fn operand(alloc: Global, kind: IntKind, letter: u8, n: Option<u64>) -> Result<CExpr, Memory>
     ensures { IfOk result (λ e. IsOperand T32 kind (expr_of e)) }
 {
-    if as_constant && number >= 0 && number <= 18446744073709551615 {
-        let n = number as u64;
-        if fits(kind, i128::from(n)) {
-            return Ok(constant_operand(kind, n));
-        }
+    match n {
+        Some(n) if fits(kind, i128::from(n)) => Ok(constant(kind, n)),
+        _ => name(alloc, kind, letter),
     }
-    name(alloc, kind, letter)
 }
 
-/// Two numbers of a kind, and which of them are written as constants.
-#[derive(Clone, Copy, Debug, Drop)]
+// ---- cases
+
+/// An operator of a kind on names or constants, and its text.
+#[derive(Clone, Copy, Drop)]
 struct Case {
-    kind: IntKind,
-    a: i128,
-    b: i128,
-    constants: (bool, bool),
-}
-
-impl Case {
-    fn names(self) -> Names {
-        Names {
-            kind: self.kind,
-            a: self.a,
-            b: self.b,
-        }
-    }
-
-    fn left(self, alloc: Global) -> Result<CExpr, Memory>
-        ensures { IfOk result (λ e. IsOperand T32 self.kind (expr_of e)) }
-    {
-        operand(alloc, self.kind, b'a', self.a, self.constants.0)
-    }
-
-    fn right(self, alloc: Global) -> Result<CExpr, Memory>
-        ensures { IfOk result (λ e. IsOperand T32 self.kind (expr_of e)) }
-    {
-        operand(alloc, self.kind, b'b', self.b, self.constants.1)
-    }
-}
-
-fn is_right_guard(alloc: Global, op: Op, which: Stop, case: Case) -> Result<bool, Memory> {
-    let Case { kind, a, b, .. } = case;
-    if !(allowed(op, kind) && is_check(op, kind, which) && fits(kind, a) && fits(kind, b)) {
-        return Ok(true);
-    }
-    let answer = apply(op, kind, a, b);
-    if which == Stop::Overflow && answer == Err(Stop::DivZero) {
-        return Ok(true);
-    }
-    let guard = guard(
-        alloc,
-        TARGET,
-        op,
-        kind,
-        which,
-        case.left(alloc)?,
-        case.right(alloc)?,
-    )?;
-    Ok(match evaluate(case.names(), &guard) {
-        Some(found) => (found.number == 0) == (answer == Err(which)),
-        None => false,
-    })
-}
-
-fn result_type(op: Op, kind: IntKind) -> CKind {
-    CKind::Scalar(match op {
-        Op::Eq | Op::Ne | Op::Lt | Op::Le | Op::Gt | Op::Ge => CScalar::Truth,
-        _ => CScalar::Int(kind),
-    })
-}
-
-fn is_right_computation(alloc: Global, op: Op, case: Case) -> Result<bool, Memory> {
-    let Case { kind, a, b, .. } = case;
-    if !(allowed(op, kind) && fits(kind, a) && fits(kind, b)) {
-        return Ok(true);
-    }
-    let Ok(answer) = apply(op, kind, a, b) else {
-        return Ok(true);
-    };
-    let computation = compute(
-        alloc,
-        TARGET,
-        op,
-        kind,
-        case.left(alloc)?,
-        case.right(alloc)?,
-    )?;
-    Ok(match evaluate(case.names(), &computation) {
-        Some(found) => convert(TARGET, result_type(op, kind), found.number) == Some(answer),
-        None => false,
-    })
-}
-
-const CONSTANTS: [(bool, bool); 4] = [(false, false), (true, false), (false, true), (true, true)];
-
-fn walk_guard(
-    rt: &impl Abort,
-    alloc: Global,
     op: Op,
-    which: Stop,
     kind: IntKind,
-) -> Result<(), Memory> {
-    for &a in &ends(kind) {
-        for &b in &ends(kind) {
-            for &constants in &CONSTANTS {
-                let case = Case {
-                    kind,
-                    a,
-                    b,
-                    constants,
-                };
-                assert!(rt;
-                    is_right_guard(alloc, op, which, case)?,
-                    "{op:?} {which:?} {case:?}"
-                );
-            }
-        }
-    }
-    Ok(())
+    a: Option<u64>,
+    b: Option<u64>,
+    text: &'static [u8],
 }
 
-fn walk_computation(rt: &impl Abort, alloc: Global, op: Op, kind: IntKind) -> Result<(), Memory> {
-    for &a in &ends(kind) {
-        for &b in &ends(kind) {
-            for &constants in &CONSTANTS {
-                let case = Case {
-                    kind,
-                    a,
-                    b,
-                    constants,
-                };
-                assert!(rt; is_right_computation(alloc, op, case)?, "{op:?} {case:?}");
-            }
-        }
+fn case_of(op: Op, kind: IntKind, a: Option<u64>, b: Option<u64>, text: &'static [u8]) -> Case {
+    Case {
+        op,
+        kind,
+        a,
+        b,
+        text,
+    }
+}
+
+fn is_right_guard(alloc: Global, case: Case, which: Stop) -> Result<bool, Memory> {
+    let Case { op, kind, .. } = case;
+    if !(allowed(op, kind) && is_check(op, kind, which)) {
+        return Ok(false);
+    }
+    let a = operand(alloc, kind, b'a', case.a)?;
+    let b = operand(alloc, kind, b'b', case.b)?;
+    let guard = guard(alloc, Target::T32, op, kind, which, a, b)?;
+    Ok(text(alloc, &guard)?.as_slice() == case.text)
+}
+
+fn is_right_computation(alloc: Global, case: Case) -> Result<bool, Memory> {
+    let Case { op, kind, .. } = case;
+    if !allowed(op, kind) {
+        return Ok(false);
+    }
+    let a = operand(alloc, kind, b'a', case.a)?;
+    let b = operand(alloc, kind, b'b', case.b)?;
+    let computation = compute(alloc, Target::T32, op, kind, a, b)?;
+    Ok(text(alloc, &computation)?.as_slice() == case.text)
+}
+
+#[test]
+fn guards_of_each_form(rt: HostRuntime) -> Result<(), Memory> {
+    let cases = [
+        (
+            Stop::Overflow,
+            case_of(Op::Add, IntKind::U8, None, None, b"(c(a+b)Ga)"),
+        ),
+        (
+            Stop::Overflow,
+            case_of(Op::Sub, IntKind::U32, None, Some(1), b"(c1uLa)"),
+        ),
+        (
+            Stop::Overflow,
+            case_of(Op::Mul, IntKind::U16, None, None, b"((ca*cb)L65535u)"),
+        ),
+        (
+            Stop::Overflow,
+            case_of(
+                Op::Mul,
+                IntKind::U64,
+                Some(3),
+                None,
+                b"((c3u=0)O(bL(18446744073709551615u/c3u)))",
+            ),
+        ),
+        (
+            Stop::Overflow,
+            case_of(
+                Op::Add,
+                IntKind::I8,
+                None,
+                None,
+                b"(((a+b)G(n127-1))A((a+b)L127))",
+            ),
+        ),
+        (
+            Stop::Overflow,
+            case_of(
+                Op::Add,
+                IntKind::I32,
+                None,
+                None,
+                b"(((ca^(ca+cb))&(cb^(ca+cb)))l2147483648u)",
+            ),
+        ),
+        (
+            Stop::Overflow,
+            case_of(Op::Neg, IntKind::I16, None, None, b"(aGn32767)"),
+        ),
+        (
+            Stop::DivZero,
+            case_of(Op::Rem, IntKind::I32, None, None, b"(b#0)"),
+        ),
+        (
+            Stop::Overflow,
+            case_of(
+                Op::Div,
+                IntKind::I64,
+                None,
+                None,
+                b"((b#n1)O(aGn9223372036854775807))",
+            ),
+        ),
+        (
+            Stop::Shift,
+            case_of(Op::Shl, IntKind::U32, None, None, b"(bl32)"),
+        ),
+    ];
+    for (which, case) in &cases {
+        assert!(rt; is_right_guard(rt.alloc(), *case, *which)?);
     }
     Ok(())
 }
 
 #[test]
-fn guards_at_the_ends_of_each_kind(rt: HostRuntime) -> Result<(), Memory> {
-    let mut guards = 0u32;
-    for &kind in &KINDS {
-        for &op in &OPS {
-            for &which in &STOPS {
-                if allowed(op, kind) && is_check(op, kind, which) {
-                    guards = guards.saturating_add(1);
-                    walk_guard(&rt, rt.alloc(), op, which, kind)?;
-                }
-            }
-        }
+fn computations_of_each_form(rt: HostRuntime) -> Result<(), Memory> {
+    let cases = [
+        case_of(Op::Add, IntKind::I32, None, Some(7), b"(a+c7u)"),
+        case_of(Op::Mul, IntKind::U16, None, None, b"(ca*cb)"),
+        case_of(Op::WrapMul, IntKind::U64, None, None, b"(a*b)"),
+        case_of(Op::Neg, IntKind::I8, None, None, b"na"),
+        case_of(Op::Le, IntKind::I64, None, None, b"(aLb)"),
+    ];
+    for case in &cases {
+        assert!(rt; is_right_computation(rt.alloc(), *case)?);
     }
-    assert_eq!(rt; guards, 60);
-    Ok(())
-}
-
-#[test]
-fn computations_at_the_ends_of_each_kind(rt: HostRuntime) -> Result<(), Memory> {
-    let mut rows = 0u32;
-    for &kind in &KINDS {
-        for &op in &OPS {
-            if allowed(op, kind) {
-                rows = rows.saturating_add(1);
-                walk_computation(&rt, rt.alloc(), op, kind)?;
-            }
-        }
-    }
-    assert_eq!(rt; rows, 128);
     Ok(())
 }

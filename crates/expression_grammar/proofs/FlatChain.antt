@@ -25,7 +25,7 @@ last_level zero n m e operand from x ts =
     then_nothing (linked n operand from x ts) (climb zero (suc n) operand from) (λ y rest. refl) ∙ ap (λ level. linked level operand from x ts) same
 last_level (suc k) n m e operand from x ts =
     then_same (linked n operand from x ts) (climb (suc k) (suc n) operand from) (λ y rest. and_then (climb k (suc n) operand from y rest) (linked m operand from))
-        (λ y rest. last_level k (suc n) m (omega arith) operand from y rest)
+    (λ y rest. last_level k (suc n) m (omega arith) operand from y rest)
     ∙ sym (then_joined (linked n operand from x ts) (climb k (suc n) operand from) (linked m operand from))
 
 -- what the reader of a chain does with the links of its last level
@@ -51,7 +51,7 @@ chain_is_flat (suc n) operand ts =
     ∙ ap (λ o. and_then o (linked n operand ts)) (chain_is_flat n operand ts)
     ∙ then_joined (operand ts) (climb n 0 operand ts) (linked n operand ts)
     ∙ sym (then_same (operand ts) (climb (suc n) 0 operand ts) (λ x rest. and_then (climb n 0 operand ts x rest) (linked n operand ts))
-        (λ x rest. last_level n 0 n (omega arith) operand ts x rest))
+    (λ x rest. last_level n 0 n (omega arith) operand ts x rest))
 
 -- ---- levels without an operator
 

@@ -1,5 +1,5 @@
 -- The tokens that rules speak of: by their mark or keyword, or by the value that they have.
-use Rattle.std.specs.Prelude.{ℕ, ◌==◌, Bool, true, false, List, Option, Some, None, is_some, length, slice_get, ◌-◌}
+use Rattle.std.specs.Prelude.{ℕ, Bool, true, false, List, Option, Some, None, is_some, length, slice_get, ◌-◌}
 use Rattle.iv_words.specs.declared.Span.{Span}
 use Rattle.iv_words.specs.declared.Name.{Name}
 use Rattle.iv_words.specs.declared.IntKind.{IntKind}

@@ -1,1 +1,1 @@
-pub mod Equality
+pub mod Faulty

@@ -5,7 +5,7 @@ use iv_words::Memory;
 use ivory_lexer::Token;
 
 /// Why reading stopped. The tokens are those from the fault on.
-#[derive(Debug, Drop)]
+#[derive(Drop)]
 pub enum Fault<'a> {
     Memory,
     /// No text goes on with the first of these tokens, or none ends where no token is left.

@@ -7,8 +7,6 @@ mod leaf;
 mod operator;
 mod parts;
 mod primary;
-#[cfg(test)]
-mod tests;
 mod token;
 
 pub use expr::expression;

@@ -93,6 +93,28 @@ pub fn starts_operator(level: usize, tokens: &[Token]) -> bool
     }
 }
 
+fn is_operator_below(level: usize, token: &Token) -> bool
+    ensures { result ≡ operators.binds_below level token.now }
+{
+    let TokenKind::Mark(mark) = token.kind else {
+        return false;
+    };
+    match binary_of_mark(mark) {
+        Some(op) => looseness(op) < level,
+        None => false,
+    }
+}
+
+/// Whether the next token is an operator of a level below this one.
+pub fn starts_operator_below(level: usize, tokens: &[Token]) -> bool
+    ensures { result ≡ starts (operators.binds_below level) tokens.now }
+{
+    match tokens {
+        [first, ..] => is_operator_below(level, first),
+        [] => false,
+    }
+}
+
 /// The prefix operator that this is, a `-` aside.
 fn plain_prefix_of(kind: &TokenKind) -> Option<PrefixOp>
     ensures { result ≡ operators.plain_prefix_of kind.now }

@@ -7,7 +7,7 @@ ghost use Rattle.expression_parser.specs.Gives.{Gives};
 
 use crate::expr::expression;
 use crate::fault::Fault;
-use crate::primary::primary;
+use crate::primary::{bracketed, primary};
 use crate::token::{mark, name, span_of, starts_mark};
 use iv_words::{Box, Memory, Seq, Span};
 use ivory_lexer::{Mark, Token, TokenKind};
@@ -23,28 +23,22 @@ fn field(alloc: Global, tokens: &[Token]) -> Result<(Step, &[Token]), Fault<'_>>
 }
 
 #[cycle(exprs)]
-#[tactic(auto, using(reading::proofs::Levels::levels))]
-fn element(alloc: Global, depth: usize, tokens: &[Token]) -> Result<(Step, &[Token]), Fault<'_>>
-    ensures { Gives result (reader.element_reader (below reader.expression depth) tokens.now) }
+fn element(alloc: Global, levels: usize, tokens: &[Token]) -> Result<(Step, &[Token]), Fault<'_>>
+    ensures { Gives result (reader.element_reader (below reader.expression levels) tokens.now) }
 {
-    let (_, rest) = mark(Mark::OpenBracket, tokens)?;
-    if depth == 0 {
-        return Err(Fault::TooDeep(tokens));
-    }
-    let (index, rest) = expression(alloc, depth - 1, rest)?;
-    let (_, rest) = mark(Mark::CloseBracket, rest)?;
+    let (index, rest) = bracketed(alloc, Mark::OpenBracket, Mark::CloseBracket, levels, tokens)?;
     let brackets = span_of(tokens, rest);
     Ok((Step::Index(Box::new(alloc, index)?, brackets), rest))
 }
 
 #[cycle(exprs)]
-fn step(alloc: Global, depth: usize, tokens: &[Token]) -> Result<(Step, &[Token]), Fault<'_>>
-    ensures { Gives result (reader.step_reader (below reader.expression depth) tokens.now) }
+fn step(alloc: Global, levels: usize, tokens: &[Token]) -> Result<(Step, &[Token]), Fault<'_>>
+    ensures { Gives result (reader.step_reader (below reader.expression levels) tokens.now) }
 {
     if starts_mark(Mark::Dot, tokens) {
         field(alloc, tokens)
     } else {
-        element(alloc, depth, tokens)
+        element(alloc, levels, tokens)
     }
 }
 
@@ -58,17 +52,17 @@ fn starts_step(tokens: &[Token]) -> bool
 }
 
 #[cycle(exprs)]
-fn steps(alloc: Global, depth: usize, tokens: &[Token]) -> Result<(Seq<Step>, &[Token]), Fault<'_>>
-    ensures { Gives result (many reader.begins_step (reader.step_reader (below reader.expression depth)) tokens.now) }
+fn steps(alloc: Global, levels: usize, tokens: &[Token]) -> Result<(Seq<Step>, &[Token]), Fault<'_>>
+    ensures { Gives result (many reader.begins_step (reader.step_reader (below reader.expression levels)) tokens.now) }
 {
-    let mut steps = Seq::new(alloc);
+    let mut steps = Seq::with_capacity(alloc, 1)?;
     let mut rest = tokens;
     // Each step takes a token at least.
     for _turn in 0..tokens.len() {
         if !starts_step(rest) {
             break;
         }
-        let (next, after) = step(alloc, depth, rest)?;
+        let (next, after) = step(alloc, levels, rest)?;
         steps.push(next)?;
         rest = after;
     }
@@ -89,14 +83,21 @@ fn with_steps(alloc: Global, base: Expr, steps: Seq<Step>, span: Span) -> Result
 ///
 /// # Errors
 ///
-/// The first token with which no such operand goes on, or the first that nests deeper than `depth` levels.
+/// The first token with which no such operand goes on, or the first that nests deeper than so many levels.
 #[cycle(exprs)]
-#[tactic(auto, unfolding(expression_grammar::specs::Reader::postfix_reader))]
-pub fn postfix(alloc: Global, depth: usize, tokens: &[Token]) -> Result<(Expr, &[Token]), Fault<'_>>
-    ensures { Gives result (reader.postfix_reader (below reader.expression depth) tokens.now) }
+#[tactic(auto, using(reading::proofs::Turns::many_none), unfolding(expression_grammar::specs::Reader::postfix_reader))]
+pub fn postfix(
+    alloc: Global,
+    levels: usize,
+    tokens: &[Token],
+) -> Result<(Expr, &[Token]), Fault<'_>>
+    ensures { Gives result (reader.postfix_reader (below reader.expression levels) tokens.now) }
 {
-    let (base, rest) = primary(alloc, depth, tokens)?;
-    let (steps, rest) = steps(alloc, depth, rest)?;
+    let (base, rest) = primary(alloc, levels, tokens)?;
+    if !starts_step(rest) {
+        return Ok((base, rest));
+    }
+    let (steps, rest) = steps(alloc, levels, rest)?;
     let span = span_of(tokens, rest);
     Ok((with_steps(alloc, base, steps, span)?, rest))
 }

@@ -1,6 +1,6 @@
 ghost use Rattle.std.specs.Prelude.{◌≡◌};
 ghost use Rattle.reading.specs.Row.{starts};
-ghost use Rattle.reading.specs.Reader.{accept, front};
+ghost use Rattle.reading.specs.Reader.{accept, front, mapped};
 ghost use Rattle.expression_grammar.specs.Tokens as kinds;
 ghost use Rattle.expression_grammar.specs.Reader.{mark_reader, key_reader};
 ghost use Rattle.expression_parser.specs.Gives.{Gives};
@@ -19,7 +19,6 @@ fn is_mark(wanted: Mark, token: &Token) -> bool
     }
 }
 
-#[tactic(auto, using(crate::proofs::Equality::key_equal))]
 fn is_key(wanted: Key, token: &Token) -> bool
     ensures { result ≡ kinds.is_key wanted token.now }
 {
@@ -73,6 +72,18 @@ pub fn mark(wanted: Mark, tokens: &[Token]) -> Result<(Span, &[Token]), Fault<'_
         [first, rest @ ..] if is_mark(wanted, first) => Ok((first.span, rest)),
         _ => Err(Fault::Unexpected(tokens)),
     }
+}
+
+/// Takes this symbol behind a value.
+pub fn followed_by<'a, A: Drop>(
+    value: A,
+    wanted: Mark,
+    tokens: &'a [Token],
+) -> Result<(A, &'a [Token]), Fault<'a>>
+    ensures { Gives result (mapped (λ at. value) (mark_reader wanted tokens.now)) }
+{
+    let (_, rest) = mark(wanted, tokens)?;
+    Ok((value, rest))
 }
 
 /// Takes this keyword, and gives where it stands.

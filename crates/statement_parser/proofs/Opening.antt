@@ -1,5 +1,5 @@
 -- A bracket that opens a level, where one is left, and what is read behind it.
-use Rattle.std.proofs.Common.{◌≡◌, ℕ, zero, suc, List, [], ◌∷◌, refl, ap, Option, Some, None}
+use Rattle.std.proofs.Common.{◌≡◌, ℕ, zero, suc, List, [], ◌∷◌, refl, Option, Some, None}
 use Rattle.std.specs.Option.{option_map}
 use Rattle.iv_words.specs.declared.Span.{Span}
 use Rattle.ivory_lexer.specs.declared.Token.{Token}

@@ -22,7 +22,7 @@ use Rattle.module_grammar.specs.Forms.{statement_form_of}
 use Rattle.module_grammar.specs.TypeReader.{placed, value_reader, area}
 use Rattle.module_grammar.specs.Trees as tree
 use Rattle.module_grammar.specs.InitReader.{first_value}
-use Rattle.module_grammar.specs.StatementReader.{semicolon, call, postfix, let_value, call_reader, form_reader, alternative_reader, block, if_rest}
+use Rattle.module_grammar.specs.StatementReader.{semicolon, call, let_value, call_reader, form_reader, alternative_reader, block, if_rest}
 
 -- a bracket, and how many levels are left behind it
 abbrev pub opening : Mark → ℕ → Reader Token ℕ

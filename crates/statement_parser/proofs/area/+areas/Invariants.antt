@@ -1,4 +1,4 @@
-use Rattle.std.proofs.Common.{ℕ, ◌+◌, ◌*◌}
+use Rattle.std.proofs.Common.{◌+◌, ◌*◌}
 use Rattle.statement_parser.proofs.area.+areas.Given as goal
 
 abbrev pub decreases-area_text : goal.decreases-area_text

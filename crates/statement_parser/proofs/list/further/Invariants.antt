@@ -1,4 +1,4 @@
-use Rattle.std.proofs.Common.{ℕ, ◌-◌, ◌++◌}
+use Rattle.std.proofs.Common.{◌-◌, ◌++◌}
 use Rattle.reading.specs.Reader.{many, mapped}
 use Rattle.reading.proofs.Turns.{Turns}
 use Rattle.statement_parser.proofs.list.further.Given as goal

@@ -1,4 +1,4 @@
-use Rattle.std.proofs.Common.{ℕ, ◌-◌, ◌∷◌}
+use Rattle.std.proofs.Common.{◌-◌, ◌∷◌}
 use Rattle.ivory_lexer.specs.declared.Mark.TheVariants as marks
 use Rattle.reading.specs.Reader.{after, many, mapped}
 use Rattle.reading.proofs.Turns.{Turns}

@@ -1,5 +1,5 @@
 -- Each function ranks above those that it calls with as many levels left.
-use Rattle.std.proofs.Common.{ℕ, ◌+◌, ◌-◌, ◌*◌}
+use Rattle.std.proofs.Common.{◌+◌, ◌-◌, ◌*◌}
 use Rattle.reading.specs.Reader.{many}
 use Rattle.reading.proofs.Turns.{Turns}
 use Rattle.module_grammar.specs.StatementReader as reader

@@ -196,7 +196,7 @@ values_have_their_types p e s h = comes_if (table_of p.target) ⊤ (static_type 
 none_declared : (p : Program) (s : CState) → HasNoObjects p s → (x : Name) (e : Entity) → declared (map local_entity s.frame.objects ++ map file_entity p.unit.objects) x ≡ Some e → ⊥
 none_declared p s none x e is =
     let found : (let r : Option Entity = None in r) ≡ Some e =
-      subst (λ os. declared (map local_entity [] ++ map file_entity os) x ≡ Some e) none.1 (subst (λ os. declared (map local_entity os ++ map file_entity p.unit.objects) x ≡ Some e) none.0 is) in
+    subst (λ os. declared (map local_entity [] ++ map file_entity os) x ≡ Some e) none.1 (subst (λ os. declared (map local_entity os ++ map file_entity p.unit.objects) x ≡ Some e) none.0 is) in
     cc
 
 -- an expression of numbers with a type: a value of it, or a reason

@@ -26,13 +26,19 @@ returns-clause-meant c =
           result = tt;
           body = (
             (record { form = (tt, tt); kind = Computed Int; typed = refl }, ((tt, record { form = tt; kind = Computed Int; typed = refl }), tt)),
-            ((refl, tt), ((tt, record { form = (tt, tt); kind = Computed Int; typed = refl }), tt)));
+            ((refl, tt), ((tt, record { form = (tt, tt); kind = Computed Int; typed = refl }), tt)),
+          );
         },
-        (record {
-          params = All-nil (λ y. IsScalar y.ty);
-          result = tt;
-          body = (
-            (tt, record { called = record { params = byte ∷ []; result = byte }; found = refl; args = (tt, record { form = tt; kind = Computed Int; typed = refl }, tt) }),
-            (record { called = record { params = byte ∷ []; result = Void }; found = refl; args = (tt, record { form = tt; kind = Scalar (Exact U8); typed = refl }, tt) }, tt));
-        }, tt));
+        (
+          record {
+            params = All-nil (λ y. IsScalar y.ty);
+            result = tt;
+            body = (
+              (tt, record { called = record { params = byte ∷ []; result = byte }; found = refl; args = (tt, record { form = tt; kind = Computed Int; typed = refl }, tt) }),
+              (record { called = record { params = byte ∷ []; result = Void }; found = refl; args = (tt, record { form = tt; kind = Scalar (Exact U8); typed = refl }, tt) }, tt),
+            );
+          },
+          tt,
+        ),
+      );
     }

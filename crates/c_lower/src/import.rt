@@ -14,7 +14,7 @@ use std::alloc::Global;
 fn parameters(alloc: Global, count: u32) -> Result<Seq<CType>, Memory>
     ensures { IfOk result (λ ts. ts ≡ replicate count (ctype.Value (scalar.Int kind.U8))) }
 {
-    let mut params = Seq::new(alloc);
+    let mut params = Seq::with_capacity(alloc, count as usize)?;
     for _done in 0..count {
         params.push(CType::Value(CScalar::Int(IntKind::U8)))?;
     }
@@ -36,7 +36,7 @@ fn extern_for(alloc: Global, import: &FirstImport) -> Result<CExtern, Memory>
 pub fn externs_for(alloc: Global, imports: &[FirstImport]) -> Result<Seq<CExtern>, Memory>
     ensures { IfOk result (λ xs. xs ≡ map shape.extern_for imports.now) }
 {
-    let mut externs = Seq::new(alloc);
+    let mut externs = Seq::with_capacity(alloc, imports.len())?;
     for import in imports {
         externs.push(extern_for(alloc, import)?)?;
     }

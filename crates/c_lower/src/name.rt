@@ -8,7 +8,7 @@ use std::alloc::Global;
 pub fn prefixed_name(alloc: Global, name: &[u8]) -> Result<Word, Memory>
     ensures { IfOk result (λ w. w ≡ prefixed name.now) }
 {
-    let mut word = Word::new(alloc);
+    let mut word = Word::with_capacity(alloc, name.len().saturating_add(3))?;
     word.extend_from_slice(b"iv_")?;
     word.extend_from_slice(name)?;
     Ok(word)

@@ -13,7 +13,7 @@ use std::alloc::Global;
 fn constants(alloc: Global, values: &[u8]) -> Result<Seq<CExpr>, Memory>
     ensures { IfOk result (λ es. map expr_of es ≡ map lowered.constant_for values.now) }
 {
-    let mut args = Seq::new(alloc);
+    let mut args = Seq::with_capacity(alloc, values.len())?;
     for value in values {
         args.push(CExpr::Number(u64::from(*value), Suffix::Plain))?;
     }
@@ -48,7 +48,7 @@ fn body_for(
 ) -> Result<Seq<CStmt>, Memory>
     ensures { IfOk result (λ ss. map stmt_of ss ≡ map (lowered.call_for imports.now) calls.now) }
 {
-    let mut body = Seq::new(alloc);
+    let mut body = Seq::with_capacity(alloc, calls.len())?;
     for call in calls {
         body.push(call_for(alloc, imports, call)?)?;
     }
@@ -80,7 +80,7 @@ pub fn functions_for(
 ) -> Result<Seq<CFunction>, Memory>
     ensures { IfOk result (λ fs. map function_of fs ≡ map (lowered.function_for imports.now) procs.now) }
 {
-    let mut functions = Seq::new(alloc);
+    let mut functions = Seq::with_capacity(alloc, procs.len())?;
     for proc in procs {
         functions.push(function_for(alloc, imports, proc)?)?;
     }

@@ -3,7 +3,7 @@ ghost use Rattle.std.specs.Prelude.{◌≡◌, ◌+◌, ◌≤◌, [], ◌++◌,
 use std::marker::Model;
 
 /// How many bytes can wait.
-pub const ROOM: usize = 4096;
+pub const ROOM: usize = 16_384;
 
 /// Bytes that wait to be put into a sink as one piece. Contracts see the list of them.
 #[derive(Drop)]

@@ -157,7 +157,7 @@ fn answers_a_fault(rt: HostRuntime) -> Result<(), Fail> {
     Ok(())
 }
 
-/// A text of 130,000 bytes takes fewer than 64 puts.
+/// A text of 130,000 bytes takes fewer than 16 puts.
 #[test]
 fn gathers_its_pieces(rt: HostRuntime) -> Result<(), Fail> {
     let alloc = rt.alloc();
@@ -165,7 +165,7 @@ fn gathers_its_pieces(rt: HostRuntime) -> Result<(), Fail> {
     for _ in 0..10_000 {
         body.push(call(alloc, "iv_led", [number(1, Suffix::Plain)])?)?;
     }
-    let mut out = MemSink::new(alloc, 1_000_000, list(alloc, [63])?)?;
+    let mut out = MemSink::new(alloc, 1_000_000, list(alloc, [15])?)?;
     let mut gathered = Gathered::over(&mut out);
     put_stmts(1, body.as_slice(), &mut gathered);
     assert!(rt; gathered.finish().is_ok());

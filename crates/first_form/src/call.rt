@@ -31,7 +31,7 @@ fn bytes_of(alloc: Global, args: &[Expr]) -> Result<Seq<u8>, Stop>
     ensures ok { IfOk result (λ vs. AllZip ByteStands (map expr_of args.now) vs) }
     ensures refused { IfRefused result ((vs : List ℕ) → AllZip ByteStands (map expr_of args.now) vs → ⊥) }
 {
-    let mut values = Seq::new(alloc);
+    let mut values = Seq::with_capacity(alloc, args.len())?;
     for arg in args {
         let Some(value) = byte_of(arg) else {
             return Err(Stop::Refused);
@@ -101,7 +101,7 @@ pub fn first_calls(
     ensures ok { IfOk result (λ ds. AllZip (StmtStands imports.now) (map stmt_of stmts.now) ds) }
     ensures refused { IfRefused result ((ds : List FirstCall) → AllZip (StmtStands imports.now) (map stmt_of stmts.now) ds → ⊥) }
 {
-    let mut firsts = Seq::new(alloc);
+    let mut firsts = Seq::with_capacity(alloc, stmts.len())?;
     for stmt in stmts {
         firsts.push(first_stmt(alloc, items, imports, stmt)?)?;
     }

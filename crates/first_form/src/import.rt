@@ -34,7 +34,7 @@ fn are_uint8(params: &[Param]) -> bool
 fn param_names(alloc: Global, params: &[Param]) -> Result<Seq<Word>, Memory>
     ensures { IfOk result (λ names. names ≡ map (λ p. p.name.text) (map param_of params.now)) }
 {
-    let mut names = Seq::new(alloc);
+    let mut names = Seq::with_capacity(alloc, params.len())?;
     for param in params {
         names.push(param.name.text.copy(alloc)?)?;
     }
@@ -94,7 +94,7 @@ pub fn first_imports(
     ensures ok { IfOk result (λ is. AllZip (ImportStands items.now) (map item_of imports.now) is) }
     ensures refused { IfRefused result ((is : List FirstImport) → AllZip (ImportStands items.now) (map item_of imports.now) is → ⊥) }
 {
-    let mut firsts = Seq::new(alloc);
+    let mut firsts = Seq::with_capacity(alloc, imports.len())?;
     for import in imports {
         firsts.push(first_import(alloc, items, import)?)?;
     }

@@ -26,7 +26,7 @@ fn name_of(item: &Item) -> &Word
 pub fn names_of(alloc: Global, items: &[Item]) -> Result<Seq<Word>, Memory>
     ensures { IfOk result (λ names. names ≡ stands.names_of (map item_of items.now)) }
 {
-    let mut names = Seq::new(alloc);
+    let mut names = Seq::with_capacity(alloc, items.len())?;
     for item in items {
         names.push(name_of(item).copy(alloc)?)?;
     }

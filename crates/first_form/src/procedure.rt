@@ -79,7 +79,7 @@ pub fn first_procs(
     ensures ok { IfOk result (λ qs. AllZip (ProcStands imports.now) (map item_of procs.now) qs) }
     ensures refused { IfRefused result ((qs : List FirstProc) → AllZip (ProcStands imports.now) (map item_of procs.now) qs → ⊥) }
 {
-    let mut firsts = Seq::new(alloc);
+    let mut firsts = Seq::with_capacity(alloc, procs.len())?;
     for proc in procs {
         firsts.push(first_proc(alloc, items, imports, proc)?)?;
     }

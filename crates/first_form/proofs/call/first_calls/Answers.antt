@@ -8,8 +8,8 @@ use Rattle.first_form.proofs.call.first_calls.Goals as goal
 
 pub returns-in_err-first_stmt-clause-refused : goal.returns-in_err-first_stmt-clause-refused
 returns-in_err-first_stmt-clause-refused c =
-    let p = err_from_is_err_and c.from_residual.result c.from_residual.ensures.1 in
-    refused_on c.from_residual.result c.in_err-first_stmt.field-0.0 (p.1 ∙ ap Err p.2) c.in_err-first_stmt.ensures.refused
+    let p = err_from_is_err_and c.from_residual-in_err-first_stmt.result c.from_residual-in_err-first_stmt.ensures.1 in
+    refused_on c.from_residual-in_err-first_stmt.result c.in_err-first_stmt.field-0.0 (p.1 ∙ ap Err p.2) c.in_err-first_stmt.ensures.refused
     (not_each stmt_of (StmtStands c.args.imports.now) _ _ c.stmt-item.result (omega arith) c.stmt-item.is)
 
 pub loop-stmt-preserved : goal.loop-stmt-preserved

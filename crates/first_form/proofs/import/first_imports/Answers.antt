@@ -8,8 +8,8 @@ use Rattle.first_form.proofs.import.first_imports.Goals as goal
 
 pub returns-in_err-first_import-clause-refused : goal.returns-in_err-first_import-clause-refused
 returns-in_err-first_import-clause-refused c =
-    let p = err_from_is_err_and c.from_residual.result c.from_residual.ensures.1 in
-    refused_on c.from_residual.result c.in_err-first_import.field-0.0 (p.1 ∙ ap Err p.2) c.in_err-first_import.ensures.refused
+    let p = err_from_is_err_and c.from_residual-in_err-first_import.result c.from_residual-in_err-first_import.ensures.1 in
+    refused_on c.from_residual-in_err-first_import.result c.in_err-first_import.field-0.0 (p.1 ∙ ap Err p.2) c.in_err-first_import.ensures.refused
     (not_each item_of (ImportStands c.args.items.now) _ _ c.import-item.result (omega arith) c.import-item.is)
 
 pub loop-import-preserved : goal.loop-import-preserved

@@ -8,8 +8,8 @@ use Rattle.first_form.proofs.procedure.first_procs.Goals as goal
 
 pub returns-in_err-first_proc-clause-refused : goal.returns-in_err-first_proc-clause-refused
 returns-in_err-first_proc-clause-refused c =
-    let p = err_from_is_err_and c.from_residual.result c.from_residual.ensures.1 in
-    refused_on c.from_residual.result c.in_err-first_proc.field-0.0 (p.1 ∙ ap Err p.2) c.in_err-first_proc.ensures.refused
+    let p = err_from_is_err_and c.from_residual-in_err-first_proc.result c.from_residual-in_err-first_proc.ensures.1 in
+    refused_on c.from_residual-in_err-first_proc.result c.in_err-first_proc.field-0.0 (p.1 ∙ ap Err p.2) c.in_err-first_proc.ensures.refused
     (not_each item_of (ProcStands c.args.imports.now) _ _ c.proc-item.result (omega arith) c.proc-item.is)
 
 pub loop-proc-preserved : goal.loop-proc-preserved

@@ -58,6 +58,7 @@ narrow_table = record {
     below_int = below_narrow_int;
     exact_bits = narrow_bits;
     exact_sign = narrow_sign;
+    some_alignment = omega arith;
   };
   int_is = inl refl;
 }

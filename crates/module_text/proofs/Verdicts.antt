@@ -1,7 +1,7 @@
 -- Of a text one verdict holds, and no other.
 use Rattle.std.proofs.Common.{◌≡◌, ℕ, ◌≤◌, ◌<◌, ◌⊎◌, Bool, true, false, cond, nat_lt, List, length, Option, Some, None, Result, Ok, Err, refl, sym, ◌∙◌, ap, inl, inr, arith, ⊎_elim}
 use Rattle.std.proofs.lemmas.Bool.{cases_lt}
-use Rattle.ivory_lexer.specs.Limits.{source_limit}
+use Rattle.ivory_lexer.specs.Limits.{longest_name, source_limit}
 use Rattle.ivory_lexer.specs.Texts.{kind_of_name, gives, TokensOf, LexFaultOf, no_piece, refused, later}
 use Rattle.ivory_lexer.specs.Table.{look_up}
 use Rattle.ivory_lexer.specs.Words.{keywords}
@@ -72,7 +72,7 @@ name_without_memory at k false e = cc
 piece_without_memory : (at : ℕ) (front : List ℕ) (p : Piece) (why : LexFault) → gives at front p ≡ Err why → why ≡ lexical.Memory → ⊥
 piece_without_memory at front piece.Dropped why e m = cc
 piece_without_memory at front piece.OpenComment why e m = cc
-piece_without_memory at front piece.Name why e m = name_without_memory at (kind_of_name (look_up keywords front) front) (nat_lt 28 (length front)) (e ∙ ap Err m)
+piece_without_memory at front piece.Name why e m = name_without_memory at (kind_of_name (look_up keywords front) front) (nat_lt longest_name (length front)) (e ∙ ap Err m)
 piece_without_memory at front (piece.Number (Some value)) why e m = cc
 piece_without_memory at front (piece.Number None) why e m = cc
 piece_without_memory at front (piece.Symbol mark) why e m = cc

@@ -7,7 +7,8 @@ import re
 import sys
 
 TOP = os.path.dirname(os.path.dirname(os.path.abspath(__file__)))
-FIRST = "crates/ivoryc/specs/Promise.antt"
+# the promise, the call that has it as its clause, and the traits over which it is stated
+FIRST = ["crates/ivoryc/specs/Promise.antt", "crates/ivoryc/src/call.rt", "crates/iv_base/src/sink.rt", "crates/iv_base/src/store.rt"]
 PAGE = "docs/TRUSTED.md"
 
 
@@ -47,7 +48,7 @@ def imported(path):
 
 
 def cone():
-    seen, waiting = set(), [FIRST]
+    seen, waiting = set(), list(FIRST)
     while waiting:
         path = waiting.pop()
         if path not in seen:
@@ -78,7 +79,7 @@ def page():
              "checks and nobody needs to believe.", "",
              f"Definitions: {len(specs)} of the {everything} files of `specs/`.", "", "| File | Says |", "|---|---|"]
     lines += [f"| `{path[len('crates/'):]}` | {head(path)} |" for path in specs]
-    lines += ["", "Types, as far as they are declared in these files:", ""]
+    lines += ["", "And of `src/`: the call with its clause, the traits of stores and sinks, and the types, as far as they are declared in these files:", ""]
     lines += [f"- `{path[len('crates/'):]}`" for path in types]
     return "\n".join(lines) + "\n"
 

@@ -24,6 +24,7 @@ while read -r kind form; do
     statement) statements="$statements $form"; text "module m; proc f() { $form }"; expect 8 ;;
     expression) statements="$statements let x = $form;"; text "module m; proc f() { let x = $form; }"; expect 8 ;;
     compiled) text "$form"; expect 0 ;;
+    later) text "$form"; expect 8 ;;
     *) continue ;;
   esac
   rows=$((rows + 1))
@@ -42,7 +43,7 @@ void iv_go(void) {
 }
 C
 cmp -s "$work/out" "$work/wanted" || { echo "forms: other C text"; failed=1; }
-[ "$rows" = 77 ] || { echo "forms: $rows rows"; failed=1; }
+[ "$rows" = 83 ] || { echo "forms: $rows rows"; failed=1; }
 
 [ $failed = 0 ] && echo "forms: ok"
 exit $failed

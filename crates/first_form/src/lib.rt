@@ -10,8 +10,6 @@ mod items;
 mod names;
 mod procedure;
 mod stop;
-#[cfg(test)]
-mod tests;
 
 pub use first::{FirstCall, FirstImport, FirstModule, FirstProc};
 pub use form::{first_form, first_form_is_unique, first_form_is_valid};

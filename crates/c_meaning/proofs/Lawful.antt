@@ -19,7 +19,7 @@ use Rattle.c_ast.specs.Syntax.{Name, Expr, FunctionCall, Stmt, Const, ConstCall,
 use Rattle.c_meaning.specs.Values.{Trouble, Undefined, Stuck, CValue, Num, Ptr, is_true, as_assigned, as_arguments}
 use Rattle.c_meaning.specs.State.{Program, program_of, end_in, CState, declare, enter, return_from, in_own_frame, seen, leave}
 use Rattle.c_meaning.specs.Expressions.{eval}
-use Rattle.c_meaning.specs.Calls.{troubled, given, Calls, no_functions, stop_at, pieces_of, reply_value, outside_with, outside, extern_call_of, call_found, call}
+use Rattle.c_meaning.specs.Calls.{troubled, given, CallResult, Nothing, Missing, Gave, Calls, no_functions, stop_at, pieces_of, reply_value, outside_with, outside, extern_call_of, call_found, call}
 use Rattle.c_meaning.specs.Statements.{with_value, call_step, used, declaration, exec, exec_all}
 use Rattle.c_meaning.specs.Runs.{function_value, param_types, bound, function_body, function_call, with_function, entry_result, entry_values, entered, entry_among, entry, first_state, run_from}
 use Rattle.c_meaning.specs.Laws.{RunLaws, LawfulCalls}
@@ -67,9 +67,10 @@ with_value_lawful p e next l = by_state_lawful _ (λ s. given_lawful p (eval p e
 declaration_lawful : (p : Program) (x : Name) (t : CType) (v : CValue) → Lawful (declaration p x t v)
 declaration_lawful p x t v = given_lawful p (as_assigned p.target t v) (λ a. change Falls (declare x a)) (λ a. change_lawful Falls (declare x a))
 
-used_lawful : {A : Type 0} (p : Program) (result : Option CValue) (next : CValue → Part CState A) → ((v : CValue) → Lawful (next v)) → Lawful (used p result next)
-used_lawful p None next l = troubled_lawful p (Undefined NoValue)
-used_lawful p (Some v) next l = l v
+used_lawful : {A : Type 0} (p : Program) (result : CallResult) (next : CValue → Part CState A) → ((v : CValue) → Lawful (next v)) → Lawful (used p result next)
+used_lawful p Nothing next l = troubled_lawful p Stuck
+used_lawful p Missing next l = troubled_lawful p (Undefined NoValue)
+used_lawful p (Gave v) next l = l v
 
 module _ (p : Program) (functions : Calls) (l : LawfulCalls functions) where
   call_step_lawful : (c : FunctionCall) → Lawful (call_step p functions c)
@@ -97,11 +98,13 @@ module _ (p : Program) (functions : Calls) (l : LawfulCalls functions) where
   -- ---- functions
 
   function_value_lawful : (result : CType) (control : Control (Option CValue)) → Lawful (function_value p result control)
-  function_value_lawful result Falls = give_lawful None
-  function_value_lawful Void (Returned None) = give_lawful None
+  function_value_lawful Void Falls = give_lawful Nothing
+  function_value_lawful (Value s) Falls = give_lawful Missing
+  function_value_lawful (Pointer constant base) Falls = give_lawful Missing
+  function_value_lawful Void (Returned None) = give_lawful Nothing
   function_value_lawful (Value s) (Returned None) = troubled_lawful p Stuck
   function_value_lawful (Pointer constant base) (Returned None) = troubled_lawful p Stuck
-  function_value_lawful result (Returned (Some v)) = given_lawful p (as_assigned p.target result v) (λ a. give (Some a)) (λ a. give_lawful (Some a))
+  function_value_lawful result (Returned (Some v)) = given_lawful p (as_assigned p.target result v) (λ a. give (Gave a)) (λ a. give_lawful (Gave a))
   function_value_lawful result Broke = troubled_lawful p Stuck
 
   -- a frame is a block for the laws, whose end asks nothing of its start
@@ -119,16 +122,15 @@ module _ (p : Program) (functions : Calls) (l : LawfulCalls functions) where
   pub with_function_lawful : (f : Function) → LawfulCalls (with_function p functions f)
   with_function_lawful f name values = choice_lawful _ _ (function_call_lawful f values) (l name values) _
 
-  entry_result_lawful : (result : CType) (value : Option CValue) → Lawful (entry_result p result value)
-  entry_result_lawful Void value = give_lawful None
-  entry_result_lawful (Value s) None = troubled_lawful p (Undefined NoValue)
-  entry_result_lawful (Value s) (Some (Num kind v)) = give_lawful (Some v)
-  entry_result_lawful (Value s) (Some (Ptr constant base to)) = troubled_lawful p Stuck
-  entry_result_lawful (Pointer constant base) value = troubled_lawful p Stuck
+  entry_result_lawful : (result : CallResult) → Lawful (entry_result p result)
+  entry_result_lawful Nothing = give_lawful None
+  entry_result_lawful Missing = troubled_lawful p (Undefined NoValue)
+  entry_result_lawful (Gave (Num kind v)) = give_lawful (Some v)
+  entry_result_lawful (Gave (Ptr constant base to)) = troubled_lawful p Stuck
 
   entered_lawful : (f : Function) (values : List ℤ) → Lawful (entered p functions f values)
   entered_lawful f values =
-      given_lawful p (entry_values (param_types f.params) values) _ (λ args. bind_lawful _ (entry_result p f.result) (function_call_lawful f args) (entry_result_lawful f.result))
+      given_lawful p (entry_values (param_types f.params) values) _ (λ args. bind_lawful _ (entry_result p) (function_call_lawful f args) entry_result_lawful)
 
 -- ---- runs
 

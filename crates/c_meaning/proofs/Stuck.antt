@@ -37,7 +37,7 @@ use Rattle.c_meaning.specs.State.{Program, Frame, CState, at_rest, seen, declare
 use Rattle.c_meaning.specs.Scopes.{value_entity, local_entity, file_entity, declarations}
 use Rattle.c_meaning.specs.Expressions.{static_type, eval, eval_all}
 use Rattle.c_meaning.specs.ExpressionLaws.{IsTyped}
-use Rattle.c_meaning.specs.Calls.{given, Calls, no_functions, pieces_of, reply_shape, reply_value, outside_with, outside, stop_at, stop_call, extern_call_of, call_found, call}
+use Rattle.c_meaning.specs.Calls.{given, CallResult, Nothing, Missing, Gave, Calls, no_functions, pieces_of, reply_shape, reply_value, outside_with, outside, stop_at, stop_call, extern_call_of, call_found, call}
 use Rattle.c_meaning.specs.Statements.{with_value, call_step, used, declaration, exec, exec_all}
 use Rattle.c_meaning.specs.Runs.{function_value, param_types, bound, function_body, function_call, with_function, entry_result, entry_values, entered, entry_among, entry, first_state_of, run_from}
 use Rattle.c_meaning.specs.Meant.{IsScalar, IsResult, Declarations, and_name, behind, of_params, Signature, stop_signature, extern_signature, function_signature, earlier_signature, or_earlier, signature_of, IsNumber, AreGiven, IsCall, IsMeant, AreMeant, FunctionIsMeant, FunctionsAreMeant, ExternIsMeant, UnitIsMeant}
@@ -145,11 +145,12 @@ module _ (u : TranslationUnit) (target : Target) where
 
   -- ---- calls of what is outside
 
-  abbrev Gives : CType → Option CValue → Type 0
-  Gives result None = ⊤
-  Gives result (Some v) = Holds result v
+  abbrev Gives : CType → CallResult → Type 0
+  Gives result Nothing = result ≡ Void
+  Gives result Missing = ⊤
+  Gives result (Gave v) = Holds result v
 
-  abbrev CallPost : CType → CState → Option CValue → CState → Type 0
+  abbrev CallPost : CType → CState → CallResult → CState → Type 0
   CallPost result s value v = Gives result value × Same s v
 
   plain_held : (s : CScalar) (v : ℤ) → IsTrue (plain_fits (plain_of s) v) → IsTrue (can_hold t (Scalar s) v)
@@ -157,7 +158,7 @@ module _ (u : TranslationUnit) (target : Target) where
   plain_held (Int kind) v h = h
 
   reply_good : (result : CType) → IsResult result → (reply : List ℤ) → IsTrue (values_fit (reply_shape result) reply) → Good (Gives result) (reply_value result reply)
-  reply_good Void is reply fits = tt
+  reply_good Void is reply fits = refl
   reply_good (Value s) is [] fits = let no : ⊥ = cc in absurd no
   reply_good (Value s) is (v ∷ vs) fits = (plain_held s v (and_both (plain_fits (plain_of s) v) (values_fit [] vs) fits).0, refl)
   reply_good (Pointer constant base) is reply fits = absurd is
@@ -336,10 +337,11 @@ module _ (u : TranslationUnit) (target : Target) where
         good_given (AreNumbers is.called.params) (CallPost is.called.result s) (eval_all p c.args s) (λ values. tick (call p functions c.name values)) n w s (numbers_good scope is.called.params c.args is.args s inv)
         (λ values numbers. keeps_tick IsNotStuck (CallPost is.called.result s) (call p functions c.name values) n w s (λ m. call_keeps externs earlier functions keep c.name is.called values numbers m w s is.found))
 
-    used_keeps : (x : Name) (ty : CType) → IsScalar ty → (given_type : CType) (value : Option CValue) → Gives given_type value → (scope : Declarations) (in_loop : Bool) (n : ℕ) (w : World) (s : CState) → Within scope callers s
+    used_keeps : (x : Name) (ty : CType) → IsScalar ty → (given_type : CType) → IsScalar given_type → (value : CallResult) → Gives given_type value → (scope : Declarations) (in_loop : Bool) (n : ℕ) (w : World) (s : CState) → Within scope callers s
         → Keeps IsNotStuck (After (and_name x ty scope) in_loop) (used p value (declaration p x ty) n w s)
-    used_keeps x ty scalar given_type None gives scope in_loop n w s inv = λ e. cc
-    used_keeps x ty scalar given_type (Some v) gives scope in_loop n w s inv = declaration_keeps x ty scalar v (holds_typed given_type v gives) scope in_loop n w s inv
+    used_keeps x ty scalar given_type has_value Nothing gives scope in_loop n w s inv = absurd (subst IsScalar gives has_value)
+    used_keeps x ty scalar given_type has_value Missing gives scope in_loop n w s inv = λ e. cc
+    used_keeps x ty scalar given_type has_value (Gave v) gives scope in_loop n w s inv = declaration_keeps x ty scalar v (holds_typed given_type v gives) scope in_loop n w s inv
 
     left_of : (part : Part CState (Control (Option CValue))) (scope : Declarations) (in_loop : Bool) (n : ℕ) (w : World) (s : CState) → Within scope callers s → Keeps IsNotStuck (Ends in_loop) (part n w s) → Keeps IsNotStuck (Left scope in_loop) (block leave part n w s)
     left_of part scope in_loop n w s inv h = keeps_left IsNotStuck (Ends in_loop) (Left scope in_loop) leave s (part n w s) (ends_left scope in_loop s inv) h
@@ -352,9 +354,9 @@ module _ (u : TranslationUnit) (target : Target) where
       exec_keeps (Const x ty e) scope in_loop meant n w s inv =
           with_value_keeps (After (and_name x ty scope) in_loop) scope e meant.1 (declaration p x ty) n w s inv (λ v typed m. declaration_keeps x ty meant.0 v typed scope in_loop m w s inv)
       exec_keeps (ConstCall x ty c) scope in_loop meant n w s inv =
-          keeps_after IsNotStuck (CallPost meant.1.called.result s) (After (and_name x ty scope) in_loop) (call_step p functions c n w s) (λ value. tick (used p value (declaration p x ty))) (call_step_keeps scope c meant.1 n w s inv)
+          keeps_after IsNotStuck (CallPost meant.1.of_function.called.result s) (After (and_name x ty scope) in_loop) (call_step p functions c n w s) (λ value. tick (used p value (declaration p x ty))) (call_step_keeps scope c meant.1.of_function n w s inv)
           (λ value v h m later. keeps_tick IsNotStuck (After (and_name x ty scope) in_loop) (used p value (declaration p x ty)) m later v
-          (λ k. used_keeps x ty meant.0 meant.1.called.result value h.0 scope in_loop k later v (same_within scope callers s v inv h.1)))
+          (λ k. used_keeps x ty meant.0 meant.1.of_function.called.result meant.1.has_value value h.0 scope in_loop k later v (same_within scope callers s v inv h.1)))
       exec_keeps (Object x b i) scope in_loop meant n w s inv = absurd meant
       exec_keeps (Assign place e) scope in_loop meant n w s inv = absurd meant
       exec_keeps (If e a) scope in_loop meant n w s inv =
@@ -410,13 +412,15 @@ module _ (u : TranslationUnit) (target : Target) where
   Gone result (Returned value) = Returns result value
 
   value_keeps : (result : CType) (control : Control (Option CValue)) → Gone result control → (s v : CState) → Same s v → (n : ℕ) (w : World) → Keeps IsNotStuck (CallPost result s) (function_value p result control n w v)
-  value_keeps result Falls h s v same n w = (tt, same)
+  value_keeps Void Falls h s v same n w = (refl, same)
+  value_keeps (Value y) Falls h s v same n w = (tt, same)
+  value_keeps (Pointer constant base) Falls h s v same n w = (tt, same)
   value_keeps result Broke h s v same n w = absurd h
-  value_keeps Void (Returned None) h s v same n w = (tt, same)
+  value_keeps Void (Returned None) h s v same n w = (refl, same)
   value_keeps (Value y) (Returned None) h s v same n w = let no : ⊥ = cc in absurd no
   value_keeps (Pointer constant base) (Returned None) h s v same n w = let no : ⊥ = cc in absurd no
   value_keeps result (Returned (Some value)) h s v same n w =
-      good_given (Holds result) (CallPost result s) (as_assigned target result value) (λ a. give (Some a)) n w v (assigned_good result h.0 value h.1) (λ a holds. (holds, same))
+      good_given (Holds result) (CallPost result s) (as_assigned target result value) (λ a. give (Gave a)) n w v (assigned_good result h.0 value h.1) (λ a holds. (holds, same))
 
   module _ (no_objects : u.objects ≡ []) (externs : All ExternIsMeant u.externs) where
     module _ (earlier : List Function) (functions : Calls) (keep : CallsKeep earlier functions) (f : Function) (meant : FunctionIsMeant u target earlier f) where
@@ -455,18 +459,17 @@ module _ (u : TranslationUnit) (target : Target) where
 
       -- ---- entry calls
 
-      entry_result_keeps : (result : CType) → IsResult result → (value : Option CValue) → Gives result value → (n : ℕ) (w : World) (s : CState) → Keeps IsNotStuck (λ number v. ⊤) (entry_result p result value n w s)
-      entry_result_keeps Void is value gives n w s = tt
-      entry_result_keeps (Value y) is None gives n w s = λ e. cc
-      entry_result_keeps (Value y) is (Some (Num k v)) gives n w s = tt
-      entry_result_keeps (Value y) is (Some (Ptr constant base to)) gives n w s = absurd gives.0
-      entry_result_keeps (Pointer constant base) is value gives n w s = absurd is
+      entry_result_keeps : (value : CallResult) → Gives f.result value → (n : ℕ) (w : World) (s : CState) → Keeps IsNotStuck (λ number v. ⊤) (entry_result p value n w s)
+      entry_result_keeps Nothing gives n w s = tt
+      entry_result_keeps Missing gives n w s = λ e. cc
+      entry_result_keeps (Gave (Num k v)) gives n w s = tt
+      entry_result_keeps (Gave (Ptr constant base to)) gives n w s = absurd (holds_typed f.result (Ptr constant base to) gives)
 
       entered_keeps : (values : List ℤ) → Good (AreNumbers (param_types f.params)) (entry_values (param_types f.params) values) → (n : ℕ) (w : World) (s : CState) → Keeps IsNotStuck (λ number v. ⊤) (entered p functions f values n w s)
       entered_keeps values good n w s =
           good_given (AreNumbers (param_types f.params)) (λ number v. ⊤) (entry_values (param_types f.params) values) _ n w s good
-          (λ args numbers. keeps_after IsNotStuck (CallPost f.result s) (λ number v. ⊤) (function_call p functions f args n w s) (entry_result p f.result) (function_keeps args numbers n w s)
-          (λ value v h m later. entry_result_keeps f.result meant.result value h.0 m later v))
+          (λ args numbers. keeps_after IsNotStuck (CallPost f.result s) (λ number v. ⊤) (function_call p functions f args n w s) (entry_result p) (function_keeps args numbers n w s)
+          (λ value v h m later. entry_result_keeps value h.0 m later v))
 
     -- the plain types of parameters, and what numbers that fit them are
     record PlainParams (xs : List CParam) : Type 0 where

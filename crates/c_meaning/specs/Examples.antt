@@ -260,6 +260,9 @@ pub record StuckExamples : Type 0 where
   pub object : watched_once (blinking (Object (codes "iv_y") (base.Scalar Truth) None ∷ [])) 9 ≡ lost
   pub itself : watched_once (blinking (plain_call (codes "iv_main") ∷ [])) 9 ≡ lost
   pub unknown : watched_once (blinking (Const (codes "iv_y") byte (name (codes "iv_x")) ∷ [])) 9 ≡ lost
+  pub no_value : watched_once (calling Void [] (shows_result byte 9)) 9 ≡ lost
+  pub returned_without : watched_once (calling Void (Return None ∷ []) (shows_result byte 9)) 9 ≡ lost
+  pub outside_without : watched_once (blinking (ConstCall (codes "iv_y") byte (record { name = codes "iv_led"; args = number 1 ∷ [] }) ∷ [])) 9 ≡ outcome_of (led (pos 1) ∷ []) (Stopped no_site)
   pub undefined : watched_once (signed_led 128) 9 ≡ outcome_of [] (Undefined Implementation)
 
 -- units with externs, parameters, results, conditions and loops are among those of the law

@@ -8,20 +8,21 @@ use Rattle.c_ast.specs.Syntax.{Name, Expr, FunctionCall, Stmt, Const, ConstCall,
 use Rattle.c_meaning.specs.Values.{Undefined, Stuck, CValue, is_true, as_assigned}
 use Rattle.c_meaning.specs.State.{Program, CState, declare, leave}
 use Rattle.c_meaning.specs.Expressions.{eval, eval_all}
-use Rattle.c_meaning.specs.Calls.{troubled, given, Calls, call}
+use Rattle.c_meaning.specs.Calls.{troubled, given, CallResult, Nothing, Missing, Gave, Calls, call}
 
 -- the value of an expression, and the step of the statement that it stands in
 abbrev pub with_value : {A : Type 0} → Program → Expr → (CValue → Part CState A) → Part CState A
 with_value p e next = by_state (λ s. given p (eval p e s) (λ v. tick (next v)))
 
 -- a call: its arguments, the call's step, and then what is called (6.5.2.2)
-abbrev pub call_step : Program → Calls → FunctionCall → Part CState (Option CValue)
+abbrev pub call_step : Program → Calls → FunctionCall → Part CState CallResult
 call_step p functions c = by_state (λ s. given p (eval_all p c.args s) (λ values. tick (call p functions c.name values)))
 
--- the value of a call that is used: a function that reached its `}` has none (6.9.1)
-abbrev pub used : {A : Type 0} → Program → Option CValue → (CValue → Part CState A) → Part CState A
-used p None next = troubled p (Undefined NoValue)
-used p (Some v) next = next v
+-- the value of a call that is used: a function that reached its `}` has none (6.9.1), and no rule of types lets a `void` one be used
+abbrev pub used : {A : Type 0} → Program → CallResult → (CValue → Part CState A) → Part CState A
+used p Nothing next = troubled p Stuck
+used p Missing next = troubled p (Undefined NoValue)
+used p (Gave v) next = next v
 
 -- the declaration of a const name: its value is converted as by assignment (6.7.8)
 abbrev pub declaration : Program → Name → CType → CValue → Part CState (Control (Option CValue))

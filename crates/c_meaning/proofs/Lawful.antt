@@ -16,11 +16,11 @@ use Rattle.c_ast.specs.declared.CType.{CType}
 use Rattle.c_ast.specs.declared.CType.TheVariants.{Void, Value, Pointer}
 use Rattle.c_ast.specs.declared.CExtern.{CExtern}
 use Rattle.c_ast.specs.Syntax.{Name, Expr, FunctionCall, Stmt, Const, ConstCall, Object, Assign, If, IfElse, Forever, Break, Return, Block, Call, Stmts, Nil, Cons, Function}
-use Rattle.c_meaning.specs.Values.{Trouble, Undefined, Stuck, CValue, Num, Ptr, is_true, as_assigned, as_arguments}
+use Rattle.c_meaning.specs.Values.{Trouble, Undefined, Stuck, CValue, Num, Ptr, is_true, on_ok, as_assigned, as_arguments}
 use Rattle.c_meaning.specs.State.{Program, program_of, end_in, CState, declare, enter, return_from, in_own_frame, seen, leave}
 use Rattle.c_meaning.specs.Expressions.{eval}
 use Rattle.c_meaning.specs.Calls.{troubled, given, CallResult, Nothing, Missing, Gave, Calls, no_functions, stop_at, pieces_of, reply_value, outside_with, outside, extern_call_of, call_found, call}
-use Rattle.c_meaning.specs.Statements.{with_value, call_step, used, declaration, exec, exec_all}
+use Rattle.c_meaning.specs.Statements.{with_value, with_truth, call_step, used, declaration, exec, exec_all}
 use Rattle.c_meaning.specs.Runs.{function_value, param_types, bound, function_body, function_call, with_function, entry_result, entry_values, entered, entry_among, entry, first_state, run_from}
 use Rattle.c_meaning.specs.Laws.{RunLaws, LawfulCalls}
 
@@ -64,6 +64,9 @@ call_lawful p functions l name values = choice_lawful _ _ (given_lawful p _ _ (s
 with_value_lawful : {A : Type 0} (p : Program) (e : Expr) (next : CValue → Part CState A) → ((v : CValue) → Lawful (next v)) → Lawful (with_value p e next)
 with_value_lawful p e next l = by_state_lawful _ (λ s. given_lawful p (eval p e s) (λ v. tick (next v)) (λ v. tick_lawful (next v) (l v)))
 
+with_truth_lawful : {A : Type 0} (p : Program) (e : Expr) (next : Bool → Part CState A) → ((holds : Bool) → Lawful (next holds)) → Lawful (with_truth p e next)
+with_truth_lawful p e next l = by_state_lawful _ (λ s. given_lawful p (on_ok (eval p e s) is_true) (λ holds. tick (next holds)) (λ holds. tick_lawful (next holds) (l holds)))
+
 declaration_lawful : (p : Program) (x : Name) (t : CType) (v : CValue) → Lawful (declaration p x t v)
 declaration_lawful p x t v = given_lawful p (as_assigned p.target t v) (λ a. change Falls (declare x a)) (λ a. change_lawful Falls (declare x a))
 
@@ -82,8 +85,8 @@ module _ (p : Program) (functions : Calls) (l : LawfulCalls functions) where
     exec_lawful (ConstCall x t c) = bind_lawful _ _ (call_step_lawful c) (λ result. tick_lawful _ (used_lawful p result (declaration p x t) (declaration_lawful p x t)))
     exec_lawful (Object x b i) = troubled_lawful p Stuck
     exec_lawful (Assign place e) = troubled_lawful p Stuck
-    exec_lawful (If e a) = with_value_lawful p e _ (λ v. choice_lawful _ _ (block_lawful leave _ (exec_all_lawful a)) (give_lawful Falls) (is_true v))
-    exec_lawful (IfElse e a b) = with_value_lawful p e _ (λ v. choice_lawful _ _ (block_lawful leave _ (exec_all_lawful a)) (block_lawful leave _ (exec_all_lawful b)) (is_true v))
+    exec_lawful (If e a) = with_truth_lawful p e _ (choice_lawful _ _ (block_lawful leave _ (exec_all_lawful a)) (give_lawful Falls))
+    exec_lawful (IfElse e a b) = with_truth_lawful p e _ (choice_lawful _ _ (block_lawful leave _ (exec_all_lawful a)) (block_lawful leave _ (exec_all_lawful b)))
     exec_lawful (Forever body) = forever_lawful _ (block_lawful leave _ (exec_all_lawful body))
     exec_lawful Break = tick_lawful _ (give_lawful _)
     exec_lawful (Return None) = tick_lawful _ (give_lawful _)

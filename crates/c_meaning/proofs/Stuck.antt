@@ -38,7 +38,7 @@ use Rattle.c_meaning.specs.Scopes.{value_entity, local_entity, file_entity, decl
 use Rattle.c_meaning.specs.Expressions.{static_type, eval, eval_all}
 use Rattle.c_meaning.specs.ExpressionLaws.{IsTyped}
 use Rattle.c_meaning.specs.Calls.{given, CallResult, Nothing, Missing, Gave, Calls, no_functions, pieces_of, reply_shape, reply_value, outside_with, outside, stop_at, stop_call, extern_call_of, call_found, call}
-use Rattle.c_meaning.specs.Statements.{with_value, call_step, used, declaration, exec, exec_all}
+use Rattle.c_meaning.specs.Statements.{with_value, with_truth, call_step, used, declaration, exec, exec_all}
 use Rattle.c_meaning.specs.Runs.{function_value, param_types, bound, function_body, function_call, with_function, entry_result, entry_values, entered, entry_among, entry, first_state_of, run_from}
 use Rattle.c_meaning.specs.Meant.{IsScalar, IsResult, Declarations, and_name, behind, of_params, Signature, stop_signature, extern_signature, function_signature, earlier_signature, or_earlier, signature_of, IsNumber, AreGiven, IsCall, IsMeant, AreMeant, FunctionIsMeant, FunctionsAreMeant, ExternIsMeant, UnitIsMeant}
 use Rattle.c_meaning.specs.Laws.{no_site, watched, IsNotStuck, MeantUnitsAreNeverStuck}
@@ -318,6 +318,16 @@ module _ (u : TranslationUnit) (target : Target) where
     with_value_keeps post scope e number next n w s inv f =
         good_given Typed post (eval p e s) (λ v. tick (next v)) n w s (number_good scope e number s inv) (λ v typed. keeps_tick IsNotStuck post (next v) n w s (λ m. f v typed m))
 
+    truth_good : (v : CValue) → Typed v → Good (λ holds. ⊤) (is_true v)
+    truth_good (Num k v) typed = tt
+    truth_good (Ptr constant base to) typed = absurd typed
+
+    with_truth_keeps : {A : Type 0} (post : A → CState → Type 0) (scope : Declarations) (e : Expr) → IsNumber u target earlier result scope e → (next : Bool → Part CState A) (n : ℕ) (w : World) (s : CState) → Within scope callers s
+        → ((holds : Bool) (m : ℕ) → Keeps IsNotStuck post (next holds m w s)) → Keeps IsNotStuck post (with_truth p e next n w s)
+    with_truth_keeps post scope e number next n w s inv f =
+        good_given (λ holds. ⊤) post (on_ok (eval p e s) is_true) (λ holds. tick (next holds)) n w s (good_on_ok Typed (λ holds. ⊤) (eval p e s) is_true (number_good scope e number s inv) truth_good)
+        (λ holds is. keeps_tick IsNotStuck post (next holds) n w s (f holds))
+
     named_within : (x : Name) (y : CScalar) (a : CValue) → Holds (Value y) a → (scope : Declarations) (s : CState) → Within scope callers s → Within ((x, ConstName (Arithmetic (Scalar y))) ∷ scope) callers (declare x a s)
     named_within x y a holds scope s inv = record {
       typed = All-cons (λ n. IsTyped t n.1) (x, a) s.frame.values (typed_is a holds.0) inv.typed;
@@ -360,11 +370,11 @@ module _ (u : TranslationUnit) (target : Target) where
       exec_keeps (Object x b i) scope in_loop meant n w s inv = absurd meant
       exec_keeps (Assign place e) scope in_loop meant n w s inv = absurd meant
       exec_keeps (If e a) scope in_loop meant n w s inv =
-          with_value_keeps (After scope in_loop) scope e meant.0 _ n w s inv
-          (λ v typed m. keeps_choice IsNotStuck (After scope in_loop) (is_true v) (block leave (exec_all p functions a)) (give Falls) m w s (λ is. block_of (exec_all p functions a) scope in_loop m w s inv (exec_all_keeps a scope in_loop meant.1 m w s inv)) inv)
+          with_truth_keeps (After scope in_loop) scope e meant.0 _ n w s inv
+          (λ holds m. keeps_choice IsNotStuck (After scope in_loop) holds (block leave (exec_all p functions a)) (give Falls) m w s (λ is. block_of (exec_all p functions a) scope in_loop m w s inv (exec_all_keeps a scope in_loop meant.1 m w s inv)) inv)
       exec_keeps (IfElse e a b) scope in_loop meant n w s inv =
-          with_value_keeps (After scope in_loop) scope e meant.0 _ n w s inv
-          (λ v typed m. keeps_choice IsNotStuck (After scope in_loop) (is_true v) (block leave (exec_all p functions a)) (block leave (exec_all p functions b)) m w s
+          with_truth_keeps (After scope in_loop) scope e meant.0 _ n w s inv
+          (λ holds m. keeps_choice IsNotStuck (After scope in_loop) holds (block leave (exec_all p functions a)) (block leave (exec_all p functions b)) m w s
           (λ is. block_of (exec_all p functions a) scope in_loop m w s inv (exec_all_keeps a scope in_loop meant.1 m w s inv)) (block_of (exec_all p functions b) scope in_loop m w s inv (exec_all_keeps b scope in_loop meant.2 m w s inv)))
       exec_keeps (Forever body) scope in_loop meant n w s inv =
           keeps_forever IsNotStuck (Left scope true) (After scope in_loop) (λ v h. h.1) (λ value v h. (h.0, h.1.waiting)) (block leave (exec_all p functions body)) (λ v h m later. left_of (exec_all p functions body) scope true m later v h (exec_all_keeps body scope true meant m later v h)) n w s inv

@@ -22,7 +22,10 @@ use Rattle.c_meaning.specs.Expressions.{eval}
 use Rattle.c_meaning.specs.Calls.{troubled, given, CallResult, Nothing, Missing, Gave, Calls, no_functions, stop_at, pieces_of, reply_value, outside_with, outside, extern_call_of, call_found, call}
 use Rattle.c_meaning.specs.Statements.{with_value, with_truth, call_step, used, declaration, exec, exec_all}
 use Rattle.c_meaning.specs.Runs.{function_value, param_types, bound, function_body, function_call, with_function, entry_result, entry_values, entered, entry_among, entry, first_state, run_from}
-use Rattle.c_meaning.specs.Laws.{RunLaws, LawfulCalls}
+use Rattle.c_meaning.specs.Laws.{RunLaws}
+
+abbrev pub LawfulCalls : Calls → Type 0
+LawfulCalls functions = (name : Name) (values : List CValue) → Lawful (functions name values)
 
 pub troubled_lawful : {A : Type 0} (p : Program) (trouble : Trouble) → Lawful (troubled {A = A} p trouble)
 troubled_lawful p trouble = halt_lawful (seen p) (end_in p trouble)

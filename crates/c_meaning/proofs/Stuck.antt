@@ -1,4 +1,4 @@
--- Units of the forms that have a meaning are never stuck, where they keep the rules of names and types.
+-- Units of the forms that have a meaning are never stuck, where their expressions and calls are typed.
 use Rattle.std.proofs.Common.{◌≡◌, ◌≢◌, ℕ, ℤ, ◌<◌, ◌^◌, Bool, true, false, IsTrue, List, [], ◌∷◌, map, Option, Some, None, Result, Ok, Err, arith, refl, sym, subst, ap, ◌∙◌}
 use Rattle.std.specs.Prelude.{⊤, All, ◌++◌, ◌&&◌, not, if◌then◌else◌, unsigned_abs}
 use Rattle.std.specs.Option.{option_map}

@@ -1,5 +1,5 @@
--- Units of the forms that have a meaning so far, and that keep the rules of names and types: numbers, const names, calls, conditions,
--- loops, blocks, `break` and `return`. Objects and pointers are none of them.
+-- Units of the forms that have a meaning so far, whose expressions and calls are typed: numbers, const names, calls, conditions,
+-- loops, blocks, `break` and `return`. Objects and pointers are none of them. Of how names are chosen nothing is asked.
 use Rattle.std.specs.Prelude.{◌≡◌, ⊤, List, [], ◌∷◌, map, Bool, true, false, IsTrue, Option, Some, None, if◌then◌else◌, All}
 use Rattle.std.specs.List.{find}
 use Rattle.iv_words.specs.Words.{same_word}

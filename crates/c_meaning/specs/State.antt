@@ -35,8 +35,10 @@ pub record LocalObject : Type 0 where
   pub number : ℕ
   pub base : CBase
 
--- The names in scope in a function, each table with the latest first: those that hold a value, which are const names and
--- parameters, and those of objects. The objects of file scope stand in the unit.
+-- The names in scope in a function: those that hold a value, which are const names and parameters, and those of objects. In each table
+-- the latest declaration stands first; behind all are the parameters in their order, of which no two share a name (6.7). That a const
+-- name only holds a value is this project's choice: in C99 it is an object (6.7.3), whose address no unit of the subset takes. The
+-- objects of file scope stand in the unit.
 pub record Frame : Type 0 where
   pub values : List (Name × CValue)
   pub objects : List (Name × LocalObject)

@@ -16,7 +16,7 @@ use Rattle.c_ast.specs.Conversions.{convert_in, constant_type}
 use Rattle.c_ast.specs.StaticTypes.{ValueType, Arithmetic, PointerTo}
 
 -- Why something has no meaning: C99 gives it none, for a reason; or it is stuck, since no rule of this meaning speaks of it. Stuck are
--- the forms that are not given a meaning yet, and what no unit comes to that keeps the rules of names and types.
+-- the forms that are not given a meaning yet, and what no unit comes to whose expressions and calls are typed.
 pub data Trouble : Type 0 where
   Undefined : Reason → Trouble
   Stuck : Trouble

@@ -158,7 +158,7 @@ stuck_after t excuse said (Err (Undefined reason)) next f o = tt
 stuck_after t excuse said (Err Stuck) next f o = λ type is. o
 
 module _ (p : Program) (s : CState) (h : NamesAreTyped (table_of p.target) s) (excuse : Type 0)
-    (others : (x : Name) (e : Entity) → declared (map local_entity s.frame.objects ++ map file_entity p.unit.objects) x ≡ Some e → excuse) where
+    (others : (x : Name) (e : Entity) → declared (map local_entity s.own.objects ++ map file_entity p.unit.objects) x ≡ Some e → excuse) where
   abbrev t : TargetTable
   t = table_of p.target
 
@@ -167,7 +167,7 @@ module _ (p : Program) (s : CState) (h : NamesAreTyped (table_of p.target) s) (e
 
   value_comes : (e : Expr) → IsOfNumbers excuse e → Comes t excuse (said e) (eval p e s)
   value_comes (Number v suffix) form = of_type_comes t excuse (constant_type_in t suffix v) v (first_holds t (candidates suffix) (pos v))
-  value_comes (Read (Var x)) form = name_comes t excuse p.unit.structs (map local_entity s.frame.objects ++ map file_entity p.unit.objects) others s.frame.values h x
+  value_comes (Read (Var x)) form = name_comes t excuse p.unit.structs (map local_entity s.own.objects ++ map file_entity p.unit.objects) others s.own.values h x
   value_comes (Read (At e)) form = λ type is. form
   value_comes (Read (Member place m)) form = λ type is. form
   value_comes (Read (Element place e)) form = λ type is. form
@@ -210,7 +210,7 @@ comes_if t excuse said (Err why) h = tt
 pub values_have_their_types : ValuesHaveTheirTypes
 values_have_their_types p e s h = comes_if (table_of p.target) ⊤ (static_type p s e) (eval p e s) (value_comes p s h ⊤ (λ x entity is. tt) e (any_form e))
 
-none_declared : (p : Program) (s : CState) → HasNoObjects p s → (x : Name) (e : Entity) → declared (map local_entity s.frame.objects ++ map file_entity p.unit.objects) x ≡ Some e → ⊥
+none_declared : (p : Program) (s : CState) → HasNoObjects p s → (x : Name) (e : Entity) → declared (map local_entity s.own.objects ++ map file_entity p.unit.objects) x ≡ Some e → ⊥
 none_declared p s none x e is =
     let found : (let r : Option Entity = None in r) ≡ Some e =
     subst (λ os. declared (map local_entity [] ++ map file_entity os) x ≡ Some e) none.1 (subst (λ os. declared (map local_entity os ++ map file_entity p.unit.objects) x ≡ Some e) none.0 is) in

@@ -6,10 +6,12 @@ use Rattle.iv_script.specs.declared.Reason.TheVariants.{NoValue}
 use Rattle.iv_script.specs.declared.Script.{Script}
 use Rattle.step_semantics.specs.Steps.{FailedCheck, Part, give, tick, change}
 use Rattle.step_semantics.specs.Control.{Control, Falls, Broke, Returned}
+use Rattle.step_semantics.specs.Frames.{pop_frame}
 use Rattle.step_semantics.specs.Lawful.{Lawful}
 use Rattle.step_semantics.specs.Outcomes.{OutcomeLaws}
 use Rattle.step_semantics.proofs.Prefixes.{prefix_refl}
 use Rattle.step_semantics.proofs.Laws.{give_lawful, halt_lawful, bind_lawful, tick_lawful, change_lawful, block_lawful, by_state_lawful}
+use Rattle.step_semantics.proofs.FrameLaws.{in_frame_lawful}
 use Rattle.step_semantics.proofs.ControlLaws.{also_lawful, forever_lawful}
 use Rattle.step_semantics.proofs.RunLaws.{import_call_lawful, run_outcomes}
 use Rattle.c_ast.specs.declared.CType.{CType}
@@ -17,7 +19,7 @@ use Rattle.c_ast.specs.declared.CType.TheVariants.{Void, Value, Pointer}
 use Rattle.c_ast.specs.declared.CExtern.{CExtern}
 use Rattle.c_ast.specs.Syntax.{Name, Expr, FunctionCall, Stmt, Const, ConstCall, Object, Assign, If, IfElse, Forever, Break, Return, Block, Call, Stmts, Nil, Cons, Function}
 use Rattle.c_meaning.specs.Values.{Trouble, Undefined, Stuck, CValue, Num, Ptr, is_true, on_ok, as_assigned, as_arguments}
-use Rattle.c_meaning.specs.State.{Program, program_of, end_in, CState, declare, enter, return_from, in_own_frame, seen, leave}
+use Rattle.c_meaning.specs.State.{Program, program_of, end_in, CState, declare, enter, seen, leave}
 use Rattle.c_meaning.specs.Expressions.{eval}
 use Rattle.c_meaning.specs.Calls.{troubled, given, CallResult, Nothing, Missing, Gave, Calls, no_functions, stop_at, pieces_of, reply_value, outside_with, outside, extern_call_of, call_found, call}
 use Rattle.c_meaning.specs.Statements.{with_value, with_truth, call_step, used, declaration, exec, exec_all}
@@ -113,14 +115,8 @@ module _ (p : Program) (functions : Calls) (l : LawfulCalls functions) where
   function_value_lawful result (Returned (Some v)) = given_lawful p (as_assigned p.target result v) (λ a. give (Gave a)) (λ a. give_lawful (Gave a))
   function_value_lawful result Broke = troubled_lawful p Stuck
 
-  -- a frame is a block for the laws, whose end asks nothing of its start
-  in_own_frame_lawful : {A : Type 0} (params : List (Name × CValue)) (part : Part CState A) → Lawful part → Lawful (in_own_frame params part)
-  in_own_frame_lawful params part h =
-      let framed = block_lawful (λ before after. return_from after) part h in
-      record { grows = λ n w s. framed.grows n w (enter params s); stays = λ n k w s. framed.stays n k w (enter params s) }
-
   function_body_lawful : (f : Function) (args : List CValue) → Lawful (function_body p functions f args)
-  function_body_lawful f args = bind_lawful _ (function_value p f.result) (in_own_frame_lawful (bound f.params args) _ (block_lawful leave _ (exec_all_lawful f.body))) (function_value_lawful f.result)
+  function_body_lawful f args = bind_lawful _ (function_value p f.result) (in_frame_lawful (enter (bound f.params args)) pop_frame _ (block_lawful leave _ (exec_all_lawful f.body))) (function_value_lawful f.result)
 
   pub function_call_lawful : (f : Function) (values : List CValue) → Lawful (function_call p functions f values)
   function_call_lawful f values = given_lawful p (as_arguments p.target (param_types f.params) values) (function_body p functions f) (function_body_lawful f)

@@ -15,7 +15,9 @@ use Rattle.iv_script.specs.declared.Script.{Script}
 use Rattle.iv_script.specs.Scripts.{plain_fits, values_fit, export_of, found_fits, Fits}
 use Rattle.step_semantics.specs.Steps.{World, FailedCheck, Part, give, tick, block}
 use Rattle.step_semantics.specs.Control.{Control, Falls, Broke, Returned}
+use Rattle.step_semantics.specs.Frames.{without, pop_frame}
 use Rattle.step_semantics.specs.Safe.{Keeps}
+use Rattle.step_semantics.proofs.FrameLaws.{keeps_in_frame}
 use Rattle.step_semantics.proofs.Keeping.{Given, keeps_weaker, keeps_after, keeps_tick, keeps_left, keeps_also, keeps_forever, keeps_choice, keeps_import_call, keeps_run}
 use Rattle.c_ast.specs.declared.CScalar.{CScalar}
 use Rattle.c_ast.specs.declared.CScalar.TheVariants.{Truth, Int}
@@ -33,7 +35,7 @@ use Rattle.c_ast.specs.StaticTypes.{ValueType, Arithmetic, ConstName, declared, 
 use Rattle.c_ast.specs.Syntax.{Name, Expr, FunctionCall, Stmt, Const, ConstCall, Object, Assign, If, IfElse, Forever, Break, Return, Block, Call, Stmts, Nil, Cons, FileObject, Function, TranslationUnit}
 use Rattle.c_ast.specs.Targets.{TargetTable, table_of}
 use Rattle.c_meaning.specs.Values.{Trouble, Undefined, Stuck, CValue, Num, Ptr, held_type, is_true, on_ok, as_kind, as_assigned, as_arguments}
-use Rattle.c_meaning.specs.State.{Program, Frame, CState, at_rest, seen, declare, leave, enter, back_to, return_from, in_own_frame}
+use Rattle.c_meaning.specs.State.{Program, Frame, CState, at_rest, seen, declare, leave, enter, in_own_frame}
 use Rattle.c_meaning.specs.Scopes.{value_entity, local_entity, file_entity, declarations}
 use Rattle.c_meaning.specs.Expressions.{static_type, eval, eval_all}
 use Rattle.c_meaning.specs.ExpressionLaws.{IsTyped}
@@ -60,11 +62,6 @@ good_on_ok P Q (Err Stuck) next h f = absurd h
 and_both : (a b : Bool) → IsTrue (a && b) → IsTrue a × IsTrue b
 and_both true b h = (refl, h)
 and_both false b h = let no : ⊥ = cc in absurd no
-
--- the frames are as they were
-record Same (s u : CState) : Type 0 where
-  frame : u.frame ≡ s.frame
-  callers : u.callers ≡ s.callers
 
 module _ (u : TranslationUnit) (target : Target) where
   abbrev p : Program
@@ -151,7 +148,7 @@ module _ (u : TranslationUnit) (target : Target) where
   Gives result (Gave v) = Holds result v
 
   abbrev CallPost : CType → CState → CallResult → CState → Type 0
-  CallPost result s value v = Gives result value × Same s v
+  CallPost result s value v = Gives result value × (v ≡ s)
 
   plain_held : (s : CScalar) (v : ℤ) → IsTrue (plain_fits (plain_of s) v) → IsTrue (can_hold t (Scalar s) v)
   plain_held Truth v h = grind (arith, ints)
@@ -169,7 +166,7 @@ module _ (u : TranslationUnit) (target : Target) where
       (λ pieces z. keeps_after IsNotStuck (Given s (reply_shape x.result)) (CallPost x.result s) _ (λ reply. given p (reply_value x.result reply) give)
       (keeps_import_call IsNotStuck (seen p) (λ e. cc) (λ e. cc) s (outer_name x.name) pieces (reply_shape x.result) n w)
       (λ reply v replied m later. good_given (Gives x.result) (CallPost x.result s) (reply_value x.result reply) give m later v (reply_good x.result is reply replied.fits)
-      (λ value gives. (gives, record { frame = ap (λ y. y.frame) replied.same; callers = ap (λ y. y.callers) replied.same }))))
+      (λ value gives. (gives, replied.same))))
 
   extern_keeps : (x : CExtern) (result : CType) → IsResult result → IsResult x.result → (values : List CValue) → AreNumbers x.params values → (n : ℕ) (w : World) (s : CState) → Keeps IsNotStuck (CallPost x.result s) (extern_call_of p x result values n w s)
   extern_keeps x Void h is values numbers n w s = good_given (AreHeld x.params) (CallPost x.result s) (as_arguments target x.params values) (outside p x) n w s (arguments_good x.params values numbers) (λ args held. outside_keeps x is args held n w s)
@@ -235,21 +232,13 @@ module _ (u : TranslationUnit) (target : Target) where
   -- ---- states within a function
 
   record Within (scope : Declarations) (callers : List Frame) (s : CState) : Type 0 where
-    typed : All (λ n. IsTyped t n.1) s.frame.values
-    names : map value_entity s.frame.values ≡ scope
-    objects : s.frame.objects ≡ []
+    typed : All (λ n. IsTyped t n.1) s.own.values
+    names : map value_entity s.own.values ≡ scope
+    objects : s.own.objects ≡ []
     waiting : s.callers ≡ callers
 
-  same_within : (scope : Declarations) (callers : List Frame) (s v : CState) → Within scope callers s → Same s v → Within scope callers v
-  same_within scope callers s v inv same = record {
-    typed = subst (λ f. All (λ n. IsTyped t n.1) f.values) (sym same.frame) inv.typed;
-    names = ap (λ f. map value_entity f.values) same.frame ∙ inv.names;
-    objects = ap (λ f. f.objects) same.frame ∙ inv.objects;
-    waiting = same.callers ∙ inv.waiting;
-  }
-
-  same_refl : (s : CState) → Same s s
-  same_refl s = record { frame = refl; callers = refl }
+  same_within : (scope : Declarations) (callers : List Frame) (s v : CState) → Within scope callers s → v ≡ s → Within scope callers v
+  same_within scope callers s v inv same = subst (Within scope callers) (sym same) inv
 
   comes_good : (kind : CKind) (said : Option ValueType) (r : Result CValue Trouble) → Comes t ⊥ said r → said ≡ Some (Arithmetic kind) → Good Typed r
   comes_good kind said (Ok v) h e = number_typed kind v h.typed (h.agrees (Arithmetic kind) e)
@@ -264,9 +253,9 @@ module _ (u : TranslationUnit) (target : Target) where
   module _ (no_objects : u.objects ≡ []) (externs : All ExternIsMeant u.externs) (earlier : List Function) (functions : Calls) (keep : CallsKeep earlier functions) (result : CType) (callers : List Frame) where
     declared_are : (scope : Declarations) (s : CState) → Within scope callers s → declarations p s ≡ scope
     declared_are scope s inv =
-        ap (λ os. map value_entity s.frame.values ++ (map local_entity os ++ map file_entity u.objects)) inv.objects
-        ∙ ap (λ os. map value_entity s.frame.values ++ map file_entity os) no_objects
-        ∙ append-nil (map value_entity s.frame.values)
+        ap (λ os. map value_entity s.own.values ++ (map local_entity os ++ map file_entity u.objects)) inv.objects
+        ∙ ap (λ os. map value_entity s.own.values ++ map file_entity os) no_objects
+        ∙ append-nil (map value_entity s.own.values)
         ∙ inv.names
 
     number_good : (scope : Declarations) (e : Expr) → IsNumber u target earlier result scope e → (s : CState) → Within scope callers s → Good Typed (eval p e s)
@@ -330,8 +319,8 @@ module _ (u : TranslationUnit) (target : Target) where
 
     named_within : (x : Name) (y : CScalar) (a : CValue) → Holds (Value y) a → (scope : Declarations) (s : CState) → Within scope callers s → Within ((x, ConstName (Arithmetic (Scalar y))) ∷ scope) callers (declare x a s)
     named_within x y a holds scope s inv = record {
-      typed = All-cons (λ n. IsTyped t n.1) (x, a) s.frame.values (typed_is a holds.0) inv.typed;
-      names = ap (λ ty. (x, ConstName ty) ∷ map value_entity s.frame.values) holds.1 ∙ ap (λ ds. (x, ConstName (Arithmetic (Scalar y))) ∷ ds) inv.names;
+      typed = All-cons (λ n. IsTyped t n.1) (x, a) s.own.values (typed_is a holds.0) inv.typed;
+      names = ap (λ ty. (x, ConstName ty) ∷ map value_entity s.own.values) holds.1 ∙ ap (λ ds. (x, ConstName (Arithmetic (Scalar y))) ∷ ds) inv.names;
       objects = inv.objects;
       waiting = inv.waiting;
     }
@@ -412,8 +401,8 @@ module _ (u : TranslationUnit) (target : Target) where
   bound_names (x ∷ xs) [] h = absurd h
   bound_names (x ∷ xs) (a ∷ args) h = ap (λ ds. (x.name, ConstName (held_type a)) ∷ ds) (bound_names xs args h.1) ∙ bound_named x.name x.ty a (of_params xs) h.0
 
-  returned_same : (s v : CState) (callers : List Frame) → callers ≡ s.frame ∷ s.callers → Same s (back_to callers v)
-  returned_same s v callers e = subst (λ fs. Same s (back_to fs v)) (sym e) (record { frame = refl; callers = refl })
+  popped_same : (s v : CState) → v.callers ≡ s.own ∷ s.callers → pop_frame v ≡ s
+  popped_same s v e = ap (without v.own) e
 
   -- control as it leaves a function
   abbrev Gone : CType → Control (Option CValue) → Type 0
@@ -421,7 +410,7 @@ module _ (u : TranslationUnit) (target : Target) where
   Gone result Broke = ⊥
   Gone result (Returned value) = Returns result value
 
-  value_keeps : (result : CType) (control : Control (Option CValue)) → Gone result control → (s v : CState) → Same s v → (n : ℕ) (w : World) → Keeps IsNotStuck (CallPost result s) (function_value p result control n w v)
+  value_keeps : (result : CType) (control : Control (Option CValue)) → Gone result control → (s v : CState) → v ≡ s → (n : ℕ) (w : World) → Keeps IsNotStuck (CallPost result s) (function_value p result control n w v)
   value_keeps Void Falls h s v same n w = (refl, same)
   value_keeps (Value y) Falls h s v same n w = (tt, same)
   value_keeps (Pointer constant base) Falls h s v same n w = (tt, same)
@@ -435,22 +424,22 @@ module _ (u : TranslationUnit) (target : Target) where
   module _ (no_objects : u.objects ≡ []) (externs : All ExternIsMeant u.externs) where
     module _ (earlier : List Function) (functions : Calls) (keep : CallsKeep earlier functions) (f : Function) (meant : FunctionIsMeant u target earlier f) where
       abbrev LeftIn : CState → Control (Option CValue) → CState → Type 0
-      LeftIn s = Left no_objects externs earlier functions keep f.result (s.frame ∷ s.callers) (of_params f.params) false
+      LeftIn s = Left no_objects externs earlier functions keep f.result (s.own ∷ s.callers) (of_params f.params) false
 
-      gone : (s : CState) (control : Control (Option CValue)) (v : CState) → LeftIn s control v → Gone f.result control × Same s (return_from v)
-      gone s Falls v h = (tt, returned_same s v v.callers h.waiting)
+      gone : (s : CState) (control : Control (Option CValue)) (v : CState) → LeftIn s control v → Gone f.result control × (pop_frame v ≡ s)
+      gone s Falls v h = (tt, popped_same s v h.waiting)
       gone s Broke v h = let no : ⊥ = (let broke : IsTrue false = h.0 in cc) in absurd no
-      gone s (Returned value) v h = (h.0, returned_same s v v.callers h.1.waiting)
+      gone s (Returned value) v h = (h.0, popped_same s v h.1.waiting)
 
       body_keeps : (args : List CValue) → AreHeld (param_types f.params) args → (n : ℕ) (w : World) (s : CState) → Keeps IsNotStuck (CallPost f.result s) (function_body p functions f args n w s)
       body_keeps args held n w s =
           let inner : CState = enter (bound f.params args) s in
           let body : Part CState (Control (Option CValue)) = block leave (exec_all p functions f.body) in
-          let mid : Control (Option CValue) → CState → Type 0 = λ control v. Gone f.result control × Same s v in
-          let within : Within (of_params f.params) (s.frame ∷ s.callers) inner = record { typed = bound_typed f.params args held; names = bound_names f.params args held; objects = refl; waiting = refl } in
+          let mid : Control (Option CValue) → CState → Type 0 = λ control v. Gone f.result control × (v ≡ s) in
+          let within : Within (of_params f.params) (s.own ∷ s.callers) inner = record { typed = bound_typed f.params args held; names = bound_names f.params args held; objects = refl; waiting = refl } in
           keeps_after IsNotStuck mid (CallPost f.result s) (in_own_frame (bound f.params args) body n w s) (function_value p f.result)
-          (keeps_left IsNotStuck (LeftIn s) mid (λ before after. return_from after) s (body n w inner) (gone s)
-          (left_keeps no_objects externs earlier functions keep f.result (s.frame ∷ s.callers) f.body (of_params f.params) false meant.body n w inner within))
+          (keeps_in_frame IsNotStuck (LeftIn s) mid (enter (bound f.params args)) pop_frame body n w s (gone s)
+          (left_keeps no_objects externs earlier functions keep f.result (s.own ∷ s.callers) f.body (of_params f.params) false meant.body n w inner within))
           (λ control v h m later. value_keeps f.result control h.0 s v h.1 m later)
 
       function_keeps : (values : List CValue) → AreNumbers (param_types f.params) values → (n : ℕ) (w : World) (s : CState) → Keeps IsNotStuck (CallPost f.result s) (function_call p functions f values n w s)

@@ -8,6 +8,7 @@ use Rattle.iv_words.specs.Words.{same_word}
 use Rattle.iv_script.specs.Scripts.{export_of, found_fits, values_fit}
 use Rattle.step_semantics.specs.Steps.{World, Progress, Part, give, after, bind, tick, left}
 use Rattle.step_semantics.specs.Control.{Control, Falls, Broke, Returned, onward}
+use Rattle.step_semantics.specs.Frames.{pop_frame}
 use Rattle.step_semantics.specs.Imports.{import_call}
 use Rattle.step_semantics.specs.Follows.{none_excused, Follows}
 use Rattle.step_semantics.specs.Bodies.{Returns, BodiesFollow}
@@ -30,9 +31,9 @@ use Rattle.c_ast.specs.Syntax.{Function}
 use Rattle.iv_script.specs.declared.Piece.{Piece}
 use Rattle.iv_script.specs.declared.Piece.TheVariants as piece
 use Rattle.c_meaning.specs.Values.{Trouble, CValue, on_ok, as_arguments}
-use Rattle.c_meaning.specs.State.{Program, program_of, CState, at_rest, seen, leave, enter, return_from}
+use Rattle.c_meaning.specs.State.{Program, program_of, CState, at_rest, seen, leave, enter}
 use Rattle.c_meaning.specs.Expressions.{eval_all}
-use Rattle.c_meaning.specs.Calls.{Calls, no_functions, given, pieces_of, outside_with, outside, call_found, call}
+use Rattle.c_meaning.specs.Calls.{CallResult, Nothing, Calls, no_functions, given, pieces_of, outside_with, outside, call_found, call}
 use Rattle.c_meaning.specs.Statements.{exec, exec_all}
 use Rattle.c_meaning.specs.Runs.{function_value, entry_result, entered, entry_among, with_function, entry}
 use Rattle.c_meaning.proofs.Lawful.{entry_lawful}
@@ -84,7 +85,7 @@ module _ (m : FirstModule) (valid : Valid m) where
     target = fits.target
 
     -- what a call comes to, once its step is taken
-    abbrev reached : Part CState (Option CValue)
+    abbrev reached : Part CState CallResult
     reached = outside_with program (extern_for target) (source.pieces c.values)
 
     arguments : as_arguments T32 (extern_for target).params (map int_value c.values) ≡ Ok (map byte_value c.values)
@@ -113,7 +114,7 @@ module _ (m : FirstModule) (valid : Valid m) where
     acts_follow : (n : ℕ) (w : World) (s : source.State) (t : CState) → Follows none_excused Fell 0 0 n (act n w s) (λ j. c_act j w t)
     acts_follow n w s t =
         let next : List ℤ → Part CState (Control (Option CValue)) = λ reply. give Falls in
-        let value : List ℤ → Part CState (Option CValue) = λ reply. give None in
+        let value : List ℤ → Part CState CallResult = λ reply. give Nothing in
         as_is none_excused Fell 0 0 n (act n w s) (λ j. c_act j w t) (λ j. after (import_call (seen program) target.name (source.pieces c.values) [] j w t) next)
         (λ j. after_after (import_call (seen program) target.name (source.pieces c.values) [] j w t) value (λ result. give Falls))
         (import_then_follows none_excused source.observed (seen program) s t refl 0 Fell 0 target.name (source.pieces c.values) [] (λ reply. give Falls) next n w
@@ -155,11 +156,11 @@ module _ (m : FirstModule) (valid : Valid m) where
     -- ---- procedures
 
     -- no procedure gives a value yet
-    abbrev NoResult : Option ℤ → source.State → Option CValue → CState → Type 0
-    NoResult result s value t = result ≡ None
+    abbrev NoResult : Option ℤ → source.State → CallResult → CState → Type 0
+    NoResult result s value t = (result ≡ None) × (value ≡ Nothing)
 
     value_follows : (a : Control (Option ℤ)) (s : source.State) (b : Control (Option CValue)) (t : CState) → Fell a s b t → (n : ℕ) (w : World) → Follows none_excused NoResult 0 0 n (give (source.result_of a) n w s) (λ j. function_value program Void b j w t)
-    value_follows Falls s Falls t fell n w = rests none_excused NoResult 0 None None n w s t refl
+    value_follows Falls s Falls t fell n w = rests none_excused NoResult 0 None Nothing n w s t (refl, refl)
     value_follows Falls s Broke t fell n w = absurd fell
     value_follows Falls s (Returned u) t fell n w = absurd fell
     value_follows Broke s b t fell n w = absurd fell
@@ -170,15 +171,15 @@ module _ (m : FirstModule) (valid : Valid m) where
         let body : Progress source.State (Control (Option ℤ)) = source.execs m.imports p.calls n w s in
         let own : CState = enter [] t in
         let body' : ℕ → Progress CState (Control (Option CValue)) = λ j. exec_all program functions (body_for m.imports p.calls) j w own in
-        let framed : ℕ → Progress CState (Control (Option CValue)) = λ j. left (λ before after. return_from after) t (left leave own (body' j)) in
+        let framed : ℕ → Progress CState (Control (Option CValue)) = λ j. left (λ before after. pop_frame after) t (left leave own (body' j)) in
         let ends : Control (Option ℤ) → Part source.State (Option ℤ) = λ control. give (source.result_of control) in
-        eased none_excused (Returns Alike) 0 0 15 0 n (after body ends) (λ j. after (after (framed j) (function_value program Void)) (entry_result program Void)) (omega arith) (omega arith)
-        (finished none_excused NoResult (Returns Alike) 0 0 0 n (after body ends) (λ j. after (framed j) (function_value program Void)) (entry_result program Void)
+        eased none_excused (Returns Alike) 0 0 15 0 n (after body ends) (λ j. after (after (framed j) (function_value program Void)) (entry_result program)) (omega arith) (omega arith)
+        (finished none_excused NoResult (Returns Alike) 0 0 0 n (after body ends) (λ j. after (framed j) (function_value program Void)) (entry_result program)
         (bound none_excused Fell NoResult 0 0 0 n body framed ends (function_value program Void)
-        (wrapped none_excused Fell Fell (λ before after. return_from after) t 0 0 n body (λ j. left leave own (body' j)) (λ a u b v fell. fell_still a u b v (return_from v) fell)
+        (wrapped none_excused Fell Fell (λ before after. pop_frame after) t 0 0 n body (λ j. left leave own (body' j)) (λ a u b v fell. fell_still a u b v (pop_frame v) fell)
         (wrapped none_excused Fell Fell leave own 0 0 n body body' (λ a u b v fell. fell_still a u b v (leave own v) fell) (body_follows p.calls right s own n w)))
         (λ a u b v fell i le x. value_follows a u b v fell i x))
-        (λ a u b v none i x. rests none_excused (Returns Alike) 0 a None i x u v (record { same = sym none; states = tt })))
+        (λ a u b v none i x. subst (λ r. Follows none_excused (Returns Alike) 0 0 i (give a i x u) (λ j. entry_result program r j x v)) (sym none.1) (rests none_excused (Returns Alike) 0 a None i x u v (record { same = sym none.0; states = tt }))))
 
   -- ---- entry calls
 

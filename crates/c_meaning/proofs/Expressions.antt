@@ -1,13 +1,15 @@
 -- The values of expressions have the types of their expressions, and their numbers are numbers of these types; and typed expressions of
 -- numbers are not stuck.
-use Rattle.std.proofs.Common.{◌≡◌, ℕ, ℤ, pos, Bool, true, false, IsTrue, List, [], ◌∷◌, Option, Some, None, Result, Ok, Err, IfOk, refl, sym, ap, subst, ◌∙◌}
+use Rattle.std.proofs.Common.{◌≡◌, ℕ, ℤ, pos, Bool, true, false, not, IsTrue, List, [], ◌∷◌, Option, Some, None, Result, Ok, Err, IfOk, refl, sym, ap, subst, ◌∙◌}
 use Rattle.std.specs.Prelude.{⊤, All, map, ◌++◌, if◌then◌else◌}
 use Rattle.std.specs.Option.{option_map, option_and_then}
+use Rattle.std.specs.Ordering.{int_eq}
 use Rattle.std.proofs.lemmas.List.Elements.{All-head, All-tail}
 use Rattle.iv_words.specs.Words.{same_word}
 use Rattle.iv_words.specs.Kinds.{width, is_signed}
 use Rattle.c_ast.specs.declared.Target.{Target}
 use Rattle.c_ast.specs.declared.Arith.{Arith}
+use Rattle.c_ast.specs.declared.CBase.{CBase}
 use Rattle.c_ast.specs.declared.CScalar.{CScalar}
 use Rattle.c_ast.specs.declared.CScalar.TheVariants.{Truth, Int as Exact}
 use Rattle.c_ast.specs.declared.CKind.{CKind}
@@ -132,6 +134,22 @@ module _ (t : Target) (excuse : Type 0) where
   choice_comes (Some (Arithmetic m)) (Some (Arithmetic k)) (Some (PointerTo constant base)) test x y g h = λ type is. cc
   choice_comes (Some (Arithmetic m)) (Some (Arithmetic k)) (Some (Arithmetic l)) test x y g h = either_arm (Computed (common_type (table_of t) k l)) k l test x y g h
 
+  -- no choice is made by a pointer
+  untested : (c a b : Option ValueType) (constant : Bool) (base : CBase) → ((type : ValueType) → c ≡ Some type → PointerTo constant base ≡ type) → (type : ValueType) → whole c a b ≡ Some type → excuse
+  untested None a b constant base agrees type is = cc
+  untested (Some (PointerTo c' base')) None b constant base agrees type is = cc
+  untested (Some (PointerTo c' base')) (Some v) None constant base agrees type is = cc
+  untested (Some (PointerTo c' base')) (Some v) (Some w) constant base agrees type is = cc
+  untested (Some (Arithmetic m)) a b constant base agrees type is = let no : ⊥ = (let e : PointerTo constant base ≡ Arithmetic m = agrees (Arithmetic m) refl in cc) in absurd no
+
+  cond_comes : (c a b : Option ValueType) (v : Result CValue Trouble) (x y : Result CValue Trouble) → Comes (table_of t) excuse c v → Comes (table_of t) excuse a x → Comes (table_of t) excuse b y
+      → Comes (table_of t) excuse (whole c a b) (on_ok (on_ok v is_true) (λ holds. as_common (table_of t) (whole c a b) (if holds then x else y)))
+  cond_comes c a b (Ok (Num k n)) x y f g h = choice_comes c a b (not (int_eq n (pos 0))) x y g h
+  cond_comes c a b (Ok (Ptr constant base to)) x y f g h = untested c a b constant base f.agrees
+  cond_comes c a b (Err (Undefined reason)) x y f g h = tt
+  cond_comes None a b (Err Stuck) x y f g h = λ type is. cc
+  cond_comes (Some u) a b (Err Stuck) x y f g h = λ type is. f u refl
+
 -- ---- all expressions
 
 stuck_after : (t : TargetTable) (excuse : Type 0) (said : Option ValueType) (r : Result CValue Trouble) (next : CValue → Result CValue Trouble) → ((v : CValue) → next v ≡ Err Stuck) → excuse → Comes t excuse said (on_ok r next)
@@ -140,7 +158,7 @@ stuck_after t excuse said (Err (Undefined reason)) next f o = tt
 stuck_after t excuse said (Err Stuck) next f o = λ type is. o
 
 module _ (p : Program) (s : CState) (h : NamesAreTyped (table_of p.target) s) (excuse : Type 0)
-    (others : (x : Name) (e : Entity) → declared (map local_entity s.frame.objects ++ map file_entity p.unit.objects) x ≡ Some e → excuse) where
+    (others : (x : Name) (e : Entity) → declared (map local_entity s.own.objects ++ map file_entity p.unit.objects) x ≡ Some e → excuse) where
   abbrev t : TargetTable
   t = table_of p.target
 
@@ -149,7 +167,7 @@ module _ (p : Program) (s : CState) (h : NamesAreTyped (table_of p.target) s) (e
 
   value_comes : (e : Expr) → IsOfNumbers excuse e → Comes t excuse (said e) (eval p e s)
   value_comes (Number v suffix) form = of_type_comes t excuse (constant_type_in t suffix v) v (first_holds t (candidates suffix) (pos v))
-  value_comes (Read (Var x)) form = name_comes t excuse p.unit.structs (map local_entity s.frame.objects ++ map file_entity p.unit.objects) others s.frame.values h x
+  value_comes (Read (Var x)) form = name_comes t excuse p.unit.structs (map local_entity s.own.objects ++ map file_entity p.unit.objects) others s.own.values h x
   value_comes (Read (At e)) form = λ type is. form
   value_comes (Read (Member place m)) form = λ type is. form
   value_comes (Read (Element place e)) form = λ type is. form
@@ -166,8 +184,7 @@ module _ (p : Program) (s : CState) (h : NamesAreTyped (table_of p.target) s) (e
       on_ok_comes t (targets_are_sound p.target) excuse (said e) (said (Cast (Value to) e)) (eval p e s) (as_assigned p.target (Value to)) (λ none. ap (option_and_then (of_cast (Value to))) none) (value_comes e form)
       (cast_comes p.target excuse to (said e))
   value_comes (Cond c a b) form =
-      on_ok_comes t (targets_are_sound p.target) excuse (said c) (said (Cond c a b)) (eval p c s) (λ v. as_common t (said (Cond c a b)) (if is_true v then eval p a s else eval p b s)) (λ none. ap (λ u. whole p.target excuse u (said a) (said b)) none) (value_comes c form.0)
-      (λ v has. choice_comes p.target excuse (said c) (said a) (said b) (is_true v) (eval p a s) (eval p b s) (value_comes a form.1) (value_comes b form.2))
+      cond_comes p.target excuse (said c) (said a) (said b) (eval p c s) (eval p a s) (eval p b s) (value_comes c form.0) (value_comes a form.1) (value_comes b form.2)
 
 -- ---- the laws
 
@@ -193,7 +210,7 @@ comes_if t excuse said (Err why) h = tt
 pub values_have_their_types : ValuesHaveTheirTypes
 values_have_their_types p e s h = comes_if (table_of p.target) ⊤ (static_type p s e) (eval p e s) (value_comes p s h ⊤ (λ x entity is. tt) e (any_form e))
 
-none_declared : (p : Program) (s : CState) → HasNoObjects p s → (x : Name) (e : Entity) → declared (map local_entity s.frame.objects ++ map file_entity p.unit.objects) x ≡ Some e → ⊥
+none_declared : (p : Program) (s : CState) → HasNoObjects p s → (x : Name) (e : Entity) → declared (map local_entity s.own.objects ++ map file_entity p.unit.objects) x ≡ Some e → ⊥
 none_declared p s none x e is =
     let found : (let r : Option Entity = None in r) ≡ Some e =
     subst (λ os. declared (map local_entity [] ++ map file_entity os) x ≡ Some e) none.1 (subst (λ os. declared (map local_entity os ++ map file_entity p.unit.objects) x ≡ Some e) none.0 is) in

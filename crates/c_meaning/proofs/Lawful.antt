@@ -6,23 +6,28 @@ use Rattle.iv_script.specs.declared.Reason.TheVariants.{NoValue}
 use Rattle.iv_script.specs.declared.Script.{Script}
 use Rattle.step_semantics.specs.Steps.{FailedCheck, Part, give, tick, change}
 use Rattle.step_semantics.specs.Control.{Control, Falls, Broke, Returned}
+use Rattle.step_semantics.specs.Frames.{pop_frame}
 use Rattle.step_semantics.specs.Lawful.{Lawful}
 use Rattle.step_semantics.specs.Outcomes.{OutcomeLaws}
 use Rattle.step_semantics.proofs.Prefixes.{prefix_refl}
 use Rattle.step_semantics.proofs.Laws.{give_lawful, halt_lawful, bind_lawful, tick_lawful, change_lawful, block_lawful, by_state_lawful}
+use Rattle.step_semantics.proofs.FrameLaws.{in_frame_lawful}
 use Rattle.step_semantics.proofs.ControlLaws.{also_lawful, forever_lawful}
 use Rattle.step_semantics.proofs.RunLaws.{import_call_lawful, run_outcomes}
 use Rattle.c_ast.specs.declared.CType.{CType}
 use Rattle.c_ast.specs.declared.CType.TheVariants.{Void, Value, Pointer}
 use Rattle.c_ast.specs.declared.CExtern.{CExtern}
 use Rattle.c_ast.specs.Syntax.{Name, Expr, FunctionCall, Stmt, Const, ConstCall, Object, Assign, If, IfElse, Forever, Break, Return, Block, Call, Stmts, Nil, Cons, Function}
-use Rattle.c_meaning.specs.Values.{Trouble, Undefined, Stuck, CValue, Num, Ptr, is_true, as_assigned, as_arguments}
-use Rattle.c_meaning.specs.State.{Program, program_of, end_in, CState, declare, enter, return_from, in_own_frame, seen, leave}
+use Rattle.c_meaning.specs.Values.{Trouble, Undefined, Stuck, CValue, Num, Ptr, is_true, on_ok, as_assigned, as_arguments}
+use Rattle.c_meaning.specs.State.{Program, program_of, end_in, CState, declare, enter, seen, leave}
 use Rattle.c_meaning.specs.Expressions.{eval}
-use Rattle.c_meaning.specs.Calls.{troubled, given, Calls, no_functions, stop_at, pieces_of, reply_value, outside_with, outside, extern_call_of, call_found, call}
-use Rattle.c_meaning.specs.Statements.{with_value, call_step, used, declaration, exec, exec_all}
+use Rattle.c_meaning.specs.Calls.{troubled, given, CallResult, Nothing, Missing, Gave, Calls, no_functions, stop_at, pieces_of, reply_value, outside_with, outside, extern_call_of, call_found, call}
+use Rattle.c_meaning.specs.Statements.{with_value, with_truth, call_step, used, declaration, exec, exec_all}
 use Rattle.c_meaning.specs.Runs.{function_value, param_types, bound, function_body, function_call, with_function, entry_result, entry_values, entered, entry_among, entry, first_state, run_from}
-use Rattle.c_meaning.specs.Laws.{RunLaws, LawfulCalls}
+use Rattle.c_meaning.specs.Laws.{RunLaws}
+
+abbrev pub LawfulCalls : Calls → Type 0
+LawfulCalls functions = (name : Name) (values : List CValue) → Lawful (functions name values)
 
 pub troubled_lawful : {A : Type 0} (p : Program) (trouble : Trouble) → Lawful (troubled {A = A} p trouble)
 troubled_lawful p trouble = halt_lawful (seen p) (end_in p trouble)
@@ -64,12 +69,16 @@ call_lawful p functions l name values = choice_lawful _ _ (given_lawful p _ _ (s
 with_value_lawful : {A : Type 0} (p : Program) (e : Expr) (next : CValue → Part CState A) → ((v : CValue) → Lawful (next v)) → Lawful (with_value p e next)
 with_value_lawful p e next l = by_state_lawful _ (λ s. given_lawful p (eval p e s) (λ v. tick (next v)) (λ v. tick_lawful (next v) (l v)))
 
+with_truth_lawful : {A : Type 0} (p : Program) (e : Expr) (next : Bool → Part CState A) → ((holds : Bool) → Lawful (next holds)) → Lawful (with_truth p e next)
+with_truth_lawful p e next l = by_state_lawful _ (λ s. given_lawful p (on_ok (eval p e s) is_true) (λ holds. tick (next holds)) (λ holds. tick_lawful (next holds) (l holds)))
+
 declaration_lawful : (p : Program) (x : Name) (t : CType) (v : CValue) → Lawful (declaration p x t v)
 declaration_lawful p x t v = given_lawful p (as_assigned p.target t v) (λ a. change Falls (declare x a)) (λ a. change_lawful Falls (declare x a))
 
-used_lawful : {A : Type 0} (p : Program) (result : Option CValue) (next : CValue → Part CState A) → ((v : CValue) → Lawful (next v)) → Lawful (used p result next)
-used_lawful p None next l = troubled_lawful p (Undefined NoValue)
-used_lawful p (Some v) next l = l v
+used_lawful : {A : Type 0} (p : Program) (result : CallResult) (next : CValue → Part CState A) → ((v : CValue) → Lawful (next v)) → Lawful (used p result next)
+used_lawful p Nothing next l = troubled_lawful p Stuck
+used_lawful p Missing next l = troubled_lawful p (Undefined NoValue)
+used_lawful p (Gave v) next l = l v
 
 module _ (p : Program) (functions : Calls) (l : LawfulCalls functions) where
   call_step_lawful : (c : FunctionCall) → Lawful (call_step p functions c)
@@ -81,8 +90,8 @@ module _ (p : Program) (functions : Calls) (l : LawfulCalls functions) where
     exec_lawful (ConstCall x t c) = bind_lawful _ _ (call_step_lawful c) (λ result. tick_lawful _ (used_lawful p result (declaration p x t) (declaration_lawful p x t)))
     exec_lawful (Object x b i) = troubled_lawful p Stuck
     exec_lawful (Assign place e) = troubled_lawful p Stuck
-    exec_lawful (If e a) = with_value_lawful p e _ (λ v. choice_lawful _ _ (block_lawful leave _ (exec_all_lawful a)) (give_lawful Falls) (is_true v))
-    exec_lawful (IfElse e a b) = with_value_lawful p e _ (λ v. choice_lawful _ _ (block_lawful leave _ (exec_all_lawful a)) (block_lawful leave _ (exec_all_lawful b)) (is_true v))
+    exec_lawful (If e a) = with_truth_lawful p e _ (choice_lawful _ _ (block_lawful leave _ (exec_all_lawful a)) (give_lawful Falls))
+    exec_lawful (IfElse e a b) = with_truth_lawful p e _ (choice_lawful _ _ (block_lawful leave _ (exec_all_lawful a)) (block_lawful leave _ (exec_all_lawful b)))
     exec_lawful (Forever body) = forever_lawful _ (block_lawful leave _ (exec_all_lawful body))
     exec_lawful Break = tick_lawful _ (give_lawful _)
     exec_lawful (Return None) = tick_lawful _ (give_lawful _)
@@ -97,21 +106,17 @@ module _ (p : Program) (functions : Calls) (l : LawfulCalls functions) where
   -- ---- functions
 
   function_value_lawful : (result : CType) (control : Control (Option CValue)) → Lawful (function_value p result control)
-  function_value_lawful result Falls = give_lawful None
-  function_value_lawful Void (Returned None) = give_lawful None
+  function_value_lawful Void Falls = give_lawful Nothing
+  function_value_lawful (Value s) Falls = give_lawful Missing
+  function_value_lawful (Pointer constant base) Falls = give_lawful Missing
+  function_value_lawful Void (Returned None) = give_lawful Nothing
   function_value_lawful (Value s) (Returned None) = troubled_lawful p Stuck
   function_value_lawful (Pointer constant base) (Returned None) = troubled_lawful p Stuck
-  function_value_lawful result (Returned (Some v)) = given_lawful p (as_assigned p.target result v) (λ a. give (Some a)) (λ a. give_lawful (Some a))
+  function_value_lawful result (Returned (Some v)) = given_lawful p (as_assigned p.target result v) (λ a. give (Gave a)) (λ a. give_lawful (Gave a))
   function_value_lawful result Broke = troubled_lawful p Stuck
 
-  -- a frame is a block for the laws, whose end asks nothing of its start
-  in_own_frame_lawful : {A : Type 0} (params : List (Name × CValue)) (part : Part CState A) → Lawful part → Lawful (in_own_frame params part)
-  in_own_frame_lawful params part h =
-      let framed = block_lawful (λ before after. return_from after) part h in
-      record { grows = λ n w s. framed.grows n w (enter params s); stays = λ n k w s. framed.stays n k w (enter params s) }
-
   function_body_lawful : (f : Function) (args : List CValue) → Lawful (function_body p functions f args)
-  function_body_lawful f args = bind_lawful _ (function_value p f.result) (in_own_frame_lawful (bound f.params args) _ (block_lawful leave _ (exec_all_lawful f.body))) (function_value_lawful f.result)
+  function_body_lawful f args = bind_lawful _ (function_value p f.result) (in_frame_lawful (enter (bound f.params args)) pop_frame _ (block_lawful leave _ (exec_all_lawful f.body))) (function_value_lawful f.result)
 
   pub function_call_lawful : (f : Function) (values : List CValue) → Lawful (function_call p functions f values)
   function_call_lawful f values = given_lawful p (as_arguments p.target (param_types f.params) values) (function_body p functions f) (function_body_lawful f)
@@ -119,16 +124,15 @@ module _ (p : Program) (functions : Calls) (l : LawfulCalls functions) where
   pub with_function_lawful : (f : Function) → LawfulCalls (with_function p functions f)
   with_function_lawful f name values = choice_lawful _ _ (function_call_lawful f values) (l name values) _
 
-  entry_result_lawful : (result : CType) (value : Option CValue) → Lawful (entry_result p result value)
-  entry_result_lawful Void value = give_lawful None
-  entry_result_lawful (Value s) None = troubled_lawful p (Undefined NoValue)
-  entry_result_lawful (Value s) (Some (Num kind v)) = give_lawful (Some v)
-  entry_result_lawful (Value s) (Some (Ptr constant base to)) = troubled_lawful p Stuck
-  entry_result_lawful (Pointer constant base) value = troubled_lawful p Stuck
+  entry_result_lawful : (result : CallResult) → Lawful (entry_result p result)
+  entry_result_lawful Nothing = give_lawful None
+  entry_result_lawful Missing = troubled_lawful p (Undefined NoValue)
+  entry_result_lawful (Gave (Num kind v)) = give_lawful (Some v)
+  entry_result_lawful (Gave (Ptr constant base to)) = troubled_lawful p Stuck
 
   entered_lawful : (f : Function) (values : List ℤ) → Lawful (entered p functions f values)
   entered_lawful f values =
-      given_lawful p (entry_values (param_types f.params) values) _ (λ args. bind_lawful _ (entry_result p f.result) (function_call_lawful f args) (entry_result_lawful f.result))
+      given_lawful p (entry_values (param_types f.params) values) _ (λ args. bind_lawful _ (entry_result p) (function_call_lawful f args) entry_result_lawful)
 
 -- ---- runs
 

@@ -21,7 +21,7 @@ declared_as_held (n ∷ names) rest x v e = either v n.1 (named names x) (declar
 
 pub name_type_is : (p : Program) (s : CState) (x : Name) (v : CValue) → name_value s x ≡ Some v → static_type p s (Read (Var x)) ≡ Some (held_type v)
 name_type_is p s x v e =
-    ap (λ found. option_and_then of_read (option_map (of_entity p.unit.structs) found)) (declared_as_held s.frame.values (map local_entity s.frame.objects ++ map file_entity p.unit.objects) x v e)
+    ap (λ found. option_and_then of_read (option_map (of_entity p.unit.structs) found)) (declared_as_held s.own.values (map local_entity s.own.objects ++ map file_entity p.unit.objects) x v e)
 
 pub name_gives : (p : Program) (s : CState) (x : Name) (v : CValue) → name_value s x ≡ Some v → eval p (Read (Var x)) s ≡ Ok v
 name_gives p s x v e = ap held e

@@ -19,8 +19,8 @@ use Rattle.c_ast.specs.declared.CBinary.TheVariants.{Add, Sub, Mul, Div, Rem, An
 use Rattle.c_ast.specs.Targets.{TargetTable, arith_bits, arith_signed, promoted, common_in, common_type}
 use Rattle.iv_words.specs.Bits.{modulo}
 use Rattle.c_ast.specs.Conversions.{converted, can_hold}
-use Rattle.c_meaning.specs.Values.{Trouble, Undefined, Stuck, Address, CValue, Num, Ptr, held_type, is_true, on_ok}
-use Rattle.c_meaning.specs.Operators.{Operator, sum, difference, product, quotient, remainder, bitwise, shifted_left, shifted_right, with_number, computed, truth, converted_or, operand, in_common, usual, compared, shifted, unary, binary}
+use Rattle.c_meaning.specs.Values.{Trouble, Undefined, Stuck, Address, CValue, Num, Ptr, held_type, on_ok}
+use Rattle.c_meaning.specs.Operators.{Operator, sum, difference, product, quotient, remainder, bitwise, shifted_left, shifted_right, with_number, computed, truth, tested, converted_or, operand, in_common, usual, compared, shifted, unary, binary}
 use Rattle.c_ast.specs.declared.CBase.{CBase}
 use Rattle.c_ast.specs.StaticTypes.{ValueType, Arithmetic, PointerTo, unary_type, binary_type, of_unary, of_binary, of_both}
 use Rattle.c_ast.specs.TargetLaws.{SoundTable}
@@ -183,7 +183,7 @@ module _ (t : TargetTable) (sound : SoundTable t) where
   unary_fine : (op : CUnary) (k : CKind) (v : ℤ) → IsTrue (can_hold t k v) → Fine t (unary_type t op k) (unary t op (Num k v))
   unary_fine Neg k v h = let c = promoted t k in computed_is c _ (fitted_in_range (arith_bits t c) (arith_signed c) (neg_ℤ v))
   unary_fine Flip k v h = let c = promoted t k in record { typed = flipped_in_range (arith_bits t c) (arith_signed c) v (promotion_keeps t sound k v h); of_kind = refl }
-  unary_fine Not k v h = truth_is (not (is_true (Num k v)))
+  unary_fine Not k v h = truth_is (not (not (int_eq v (pos 0))))
 
   -- ---- results where the expression is said to have a type, or to have none
 
@@ -214,7 +214,7 @@ module _ (t : TargetTable) (sound : SoundTable t) where
     unary_of op (Num k v) h = fine_comes (unary_type t op k) (of_unary t op (Arithmetic k)) (unary t op (Num k v)) (λ type is. some_is is) (unary_fine op k v h)
     unary_of Neg (Ptr constant base to) h = λ type is. cc
     unary_of Flip (Ptr constant base to) h = λ type is. cc
-    unary_of Not (Ptr constant base to) h = record { typed = zero_or_one false; agrees = λ type is. cc }
+    unary_of Not (Ptr constant base to) h = λ type is. cc
 
     pub unary_comes : (op : CUnary) (said : Option ValueType) (v : CValue) → HasItsType t said v → Comes t excuse (option_and_then (of_unary t op) said) (unary t op v)
     unary_comes op None v h = weaker (of_unary t op (held_type v)) None (unary t op v) (λ type is. cc) (unary_of op v h.typed)
@@ -248,28 +248,53 @@ module _ (t : TargetTable) (sound : SoundTable t) where
     without_right : (op : CBinary) (a : CValue) (right : Option ValueType) → right ≡ None → Both op a right ≡ None
     without_right op a right none = ap (option_and_then (of_binary t op (held_type a))) none
 
-    int_said : (op : CBinary) → ((k l : CKind) → Computed Int ≡ binary_type t op k l) → (u v type : ValueType) → of_binary t op u v ≡ Some type → Arithmetic (Computed Int) ≡ type
+    -- an operator whose type is int
+    abbrev GivesInt : CBinary → Type 0
+    GivesInt op = (u v type : ValueType) → of_binary t op u v ≡ Some type → Arithmetic (Computed Int) ≡ type
+
+    int_said : (op : CBinary) → ((k l : CKind) → Computed Int ≡ binary_type t op k l) → GivesInt op
     int_said op f (Arithmetic k) (Arithmetic l) type is = ap Arithmetic (f k l) ∙ some_is is
     int_said op f (Arithmetic k) (PointerTo constant base) type is = cc
     int_said op f (PointerTo constant base) v type is = cc
 
+    -- ---- `&&` and `||`: the left operand decides, or the right one is tested
+
+    either : (said : Option ValueType) (test : Bool) (x y : Result CValue Trouble) → Comes t excuse said x → Comes t excuse said y → Comes t excuse said (if test then x else y)
+    either said true x y i j = i
+    either said false x y i j = j
+
+    truth_said : (op : CBinary) → GivesInt op → (a : CValue) (right : Option ValueType) (type : ValueType) → Both op a right ≡ Some type → Arithmetic (Computed Int) ≡ type
+    truth_said op f a None type is = cc
+    truth_said op f a (Some v) type is = f (held_type a) v type is
+
+    module _ (right : Option ValueType) (r : Result CValue Trouble) (g : Comes t excuse right r) where
+      truth_comes : (op : CBinary) → GivesInt op → (a : CValue) (holds : Bool) → Comes t excuse (Both op a right) (Ok (truth holds))
+      truth_comes op f a holds = record { typed = zero_or_one holds; agrees = truth_said op f a right }
+
+      tested_comes : (op : CBinary) → GivesInt op → (k : CKind) (x : ℤ) (b : CValue) → HasItsType t right b → Comes t excuse (Both op (Num k x) right) (tested b)
+      tested_comes op f k x (Num l y) has = truth_comes op f (Num k x) (not (int_eq y (pos 0)))
+      tested_comes op f k x (Ptr constant base to) has = none_comes (Both op (Num k x) right) (Err Stuck) (pointer_right op k constant base right has.agrees) refl
+
+      right_comes : (op : CBinary) → GivesInt op → (k : CKind) (x : ℤ) → Comes t excuse (Both op (Num k x) right) (on_ok r tested)
+      right_comes op f k x = on_ok_comes right (Both op (Num k x) right) r tested (without_right op (Num k x) right) g (tested_comes op f k x)
+
+      and_comes : (a : CValue) → Comes t excuse (Both AndAlso a right) (binary t AndAlso a r)
+      and_comes (Num k x) =
+          let f = int_said AndAlso (λ k l. refl) in
+          either (Both AndAlso (Num k x) right) (not (int_eq x (pos 0))) (on_ok r tested) (Ok (truth false)) (right_comes AndAlso f k x) (truth_comes AndAlso f (Num k x) false)
+      and_comes (Ptr constant base to) = none_comes (Both AndAlso (Ptr constant base to) right) (Err Stuck) (pointer_left AndAlso constant base right) refl
+
+      or_comes : (a : CValue) → Comes t excuse (Both OrElse a right) (binary t OrElse a r)
+      or_comes (Num k x) =
+          let f = int_said OrElse (λ k l. refl) in
+          either (Both OrElse (Num k x) right) (not (int_eq x (pos 0))) (Ok (truth true)) (on_ok r tested) (truth_comes OrElse f (Num k x) true) (right_comes OrElse f k x)
+      or_comes (Ptr constant base to) = none_comes (Both OrElse (Ptr constant base to) right) (Err Stuck) (pointer_left OrElse constant base right) refl
+
+    -- ---- all operators on two values
+
     module _ (a : CValue) (right : Option ValueType) (h : IsTyped t a) (r : Result CValue Trouble) (g : Comes t excuse right r) where
       strict_comes : (op : CBinary) (next : CValue → CValue → Result CValue Trouble) → Strict op next → Comes t excuse (Both op a right) (on_ok r (next a))
       strict_comes op next strict = on_ok_comes right (Both op a right) r (next a) (without_right op a right) g (λ b has. strict_value op next strict a b right h has)
-
-      truth_comes : (op : CBinary) → ((u v : ValueType) (type : ValueType) → of_binary t op u v ≡ Some type → Arithmetic (Computed Int) ≡ type) → (holds : Bool) → Comes t excuse (Both op a right) (Ok (truth holds))
-      truth_comes op f holds = record { typed = zero_or_one holds; agrees = said right }
-        where
-          said : (right : Option ValueType) (type : ValueType) → Both op a right ≡ Some type → Arithmetic (Computed Int) ≡ type
-          said None type is = cc
-          said (Some v) type is = f (held_type a) v type is
-
-      right_truth : (op : CBinary) → ((u v : ValueType) (type : ValueType) → of_binary t op u v ≡ Some type → Arithmetic (Computed Int) ≡ type) → Comes t excuse (Both op a right) (on_ok r (λ v. Ok (truth (is_true v))))
-      right_truth op f = on_ok_comes right (Both op a right) r (λ v. Ok (truth (is_true v))) (without_right op a right) g (λ b has. truth_comes op f (is_true b))
-
-      either : (op : CBinary) (test : Bool) (x y : Result CValue Trouble) → Comes t excuse (Both op a right) x → Comes t excuse (Both op a right) y → Comes t excuse (Both op a right) (if test then x else y)
-      either op true x y i j = i
-      either op false x y i j = j
 
       pub binary_of : (op : CBinary) → Comes t excuse (Both op a right) (binary t op a r)
       binary_of Add = strict_comes Add (usual t sum) (usual_strict Add sum sum_stays (λ k l. refl))
@@ -288,8 +313,8 @@ module _ (t : TargetTable) (sound : SoundTable t) where
       binary_of Le = strict_comes Le (compared t int_le) (compared_strict Le int_le (λ k l. refl))
       binary_of Gt = strict_comes Gt (compared t (λ x y. int_lt y x)) (compared_strict Gt (λ x y. int_lt y x) (λ k l. refl))
       binary_of Ge = strict_comes Ge (compared t (λ x y. int_le y x)) (compared_strict Ge (λ x y. int_le y x) (λ k l. refl))
-      binary_of AndAlso = either AndAlso (is_true a) _ _ (right_truth AndAlso (int_said AndAlso (λ k l. refl))) (truth_comes AndAlso (int_said AndAlso (λ k l. refl)) false)
-      binary_of OrElse = either OrElse (is_true a) _ _ (truth_comes OrElse (int_said OrElse (λ k l. refl)) true) (right_truth OrElse (int_said OrElse (λ k l. refl)))
+      binary_of AndAlso = and_comes right r g a
+      binary_of OrElse = or_comes right r g a
 
     pub binary_comes : (op : CBinary) (left right : Option ValueType) (a : CValue) → HasItsType t left a → (r : Result CValue Trouble) → Comes t excuse right r → Comes t excuse (of_both (of_binary t op) left right) (binary t op a r)
     binary_comes op None right a h r g = weaker (Both op a right) None (binary t op a r) (λ type is. cc) (binary_of a right h.typed r g op)

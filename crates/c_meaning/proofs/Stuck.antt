@@ -1,4 +1,4 @@
--- Units of the forms that have a meaning are never stuck, where they keep the rules of names and types.
+-- Units of the forms that have a meaning are never stuck, where their expressions and calls are typed.
 use Rattle.std.proofs.Common.{◌≡◌, ◌≢◌, ℕ, ℤ, ◌<◌, ◌^◌, Bool, true, false, IsTrue, List, [], ◌∷◌, map, Option, Some, None, Result, Ok, Err, arith, refl, sym, subst, ap, ◌∙◌}
 use Rattle.std.specs.Prelude.{⊤, All, ◌++◌, ◌&&◌, not, if◌then◌else◌, unsigned_abs}
 use Rattle.std.specs.Option.{option_map}
@@ -15,7 +15,9 @@ use Rattle.iv_script.specs.declared.Script.{Script}
 use Rattle.iv_script.specs.Scripts.{plain_fits, values_fit, export_of, found_fits, Fits}
 use Rattle.step_semantics.specs.Steps.{World, FailedCheck, Part, give, tick, block}
 use Rattle.step_semantics.specs.Control.{Control, Falls, Broke, Returned}
+use Rattle.step_semantics.specs.Frames.{without, pop_frame}
 use Rattle.step_semantics.specs.Safe.{Keeps}
+use Rattle.step_semantics.proofs.FrameLaws.{keeps_in_frame}
 use Rattle.step_semantics.proofs.Keeping.{Given, keeps_weaker, keeps_after, keeps_tick, keeps_left, keeps_also, keeps_forever, keeps_choice, keeps_import_call, keeps_run}
 use Rattle.c_ast.specs.declared.CScalar.{CScalar}
 use Rattle.c_ast.specs.declared.CScalar.TheVariants.{Truth, Int}
@@ -33,12 +35,12 @@ use Rattle.c_ast.specs.StaticTypes.{ValueType, Arithmetic, ConstName, declared, 
 use Rattle.c_ast.specs.Syntax.{Name, Expr, FunctionCall, Stmt, Const, ConstCall, Object, Assign, If, IfElse, Forever, Break, Return, Block, Call, Stmts, Nil, Cons, FileObject, Function, TranslationUnit}
 use Rattle.c_ast.specs.Targets.{TargetTable, table_of}
 use Rattle.c_meaning.specs.Values.{Trouble, Undefined, Stuck, CValue, Num, Ptr, held_type, is_true, on_ok, as_kind, as_assigned, as_arguments}
-use Rattle.c_meaning.specs.State.{Program, Frame, CState, at_rest, seen, declare, leave, enter, back_to, return_from, in_own_frame}
+use Rattle.c_meaning.specs.State.{Program, Frame, CState, at_rest, seen, declare, leave, enter, in_own_frame}
 use Rattle.c_meaning.specs.Scopes.{value_entity, local_entity, file_entity, declarations}
 use Rattle.c_meaning.specs.Expressions.{static_type, eval, eval_all}
 use Rattle.c_meaning.specs.ExpressionLaws.{IsTyped}
-use Rattle.c_meaning.specs.Calls.{given, Calls, no_functions, pieces_of, reply_shape, reply_value, outside_with, outside, stop_at, stop_call, extern_call_of, call_found, call}
-use Rattle.c_meaning.specs.Statements.{with_value, call_step, used, declaration, exec, exec_all}
+use Rattle.c_meaning.specs.Calls.{given, CallResult, Nothing, Missing, Gave, Calls, no_functions, pieces_of, reply_shape, reply_value, outside_with, outside, stop_at, stop_call, extern_call_of, call_found, call}
+use Rattle.c_meaning.specs.Statements.{with_value, with_truth, call_step, used, declaration, exec, exec_all}
 use Rattle.c_meaning.specs.Runs.{function_value, param_types, bound, function_body, function_call, with_function, entry_result, entry_values, entered, entry_among, entry, first_state_of, run_from}
 use Rattle.c_meaning.specs.Meant.{IsScalar, IsResult, Declarations, and_name, behind, of_params, Signature, stop_signature, extern_signature, function_signature, earlier_signature, or_earlier, signature_of, IsNumber, AreGiven, IsCall, IsMeant, AreMeant, FunctionIsMeant, FunctionsAreMeant, ExternIsMeant, UnitIsMeant}
 use Rattle.c_meaning.specs.Laws.{no_site, watched, IsNotStuck, MeantUnitsAreNeverStuck}
@@ -60,11 +62,6 @@ good_on_ok P Q (Err Stuck) next h f = absurd h
 and_both : (a b : Bool) → IsTrue (a && b) → IsTrue a × IsTrue b
 and_both true b h = (refl, h)
 and_both false b h = let no : ⊥ = cc in absurd no
-
--- the frames are as they were
-record Same (s u : CState) : Type 0 where
-  frame : u.frame ≡ s.frame
-  callers : u.callers ≡ s.callers
 
 module _ (u : TranslationUnit) (target : Target) where
   abbrev p : Program
@@ -145,19 +142,20 @@ module _ (u : TranslationUnit) (target : Target) where
 
   -- ---- calls of what is outside
 
-  abbrev Gives : CType → Option CValue → Type 0
-  Gives result None = ⊤
-  Gives result (Some v) = Holds result v
+  abbrev Gives : CType → CallResult → Type 0
+  Gives result Nothing = result ≡ Void
+  Gives result Missing = ⊤
+  Gives result (Gave v) = Holds result v
 
-  abbrev CallPost : CType → CState → Option CValue → CState → Type 0
-  CallPost result s value v = Gives result value × Same s v
+  abbrev CallPost : CType → CState → CallResult → CState → Type 0
+  CallPost result s value v = Gives result value × (v ≡ s)
 
   plain_held : (s : CScalar) (v : ℤ) → IsTrue (plain_fits (plain_of s) v) → IsTrue (can_hold t (Scalar s) v)
   plain_held Truth v h = grind (arith, ints)
   plain_held (Int kind) v h = h
 
   reply_good : (result : CType) → IsResult result → (reply : List ℤ) → IsTrue (values_fit (reply_shape result) reply) → Good (Gives result) (reply_value result reply)
-  reply_good Void is reply fits = tt
+  reply_good Void is reply fits = refl
   reply_good (Value s) is [] fits = let no : ⊥ = cc in absurd no
   reply_good (Value s) is (v ∷ vs) fits = (plain_held s v (and_both (plain_fits (plain_of s) v) (values_fit [] vs) fits).0, refl)
   reply_good (Pointer constant base) is reply fits = absurd is
@@ -168,7 +166,7 @@ module _ (u : TranslationUnit) (target : Target) where
       (λ pieces z. keeps_after IsNotStuck (Given s (reply_shape x.result)) (CallPost x.result s) _ (λ reply. given p (reply_value x.result reply) give)
       (keeps_import_call IsNotStuck (seen p) (λ e. cc) (λ e. cc) s (outer_name x.name) pieces (reply_shape x.result) n w)
       (λ reply v replied m later. good_given (Gives x.result) (CallPost x.result s) (reply_value x.result reply) give m later v (reply_good x.result is reply replied.fits)
-      (λ value gives. (gives, record { frame = ap (λ y. y.frame) replied.same; callers = ap (λ y. y.callers) replied.same }))))
+      (λ value gives. (gives, replied.same))))
 
   extern_keeps : (x : CExtern) (result : CType) → IsResult result → IsResult x.result → (values : List CValue) → AreNumbers x.params values → (n : ℕ) (w : World) (s : CState) → Keeps IsNotStuck (CallPost x.result s) (extern_call_of p x result values n w s)
   extern_keeps x Void h is values numbers n w s = good_given (AreHeld x.params) (CallPost x.result s) (as_arguments target x.params values) (outside p x) n w s (arguments_good x.params values numbers) (λ args held. outside_keeps x is args held n w s)
@@ -234,21 +232,13 @@ module _ (u : TranslationUnit) (target : Target) where
   -- ---- states within a function
 
   record Within (scope : Declarations) (callers : List Frame) (s : CState) : Type 0 where
-    typed : All (λ n. IsTyped t n.1) s.frame.values
-    names : map value_entity s.frame.values ≡ scope
-    objects : s.frame.objects ≡ []
+    typed : All (λ n. IsTyped t n.1) s.own.values
+    names : map value_entity s.own.values ≡ scope
+    objects : s.own.objects ≡ []
     waiting : s.callers ≡ callers
 
-  same_within : (scope : Declarations) (callers : List Frame) (s v : CState) → Within scope callers s → Same s v → Within scope callers v
-  same_within scope callers s v inv same = record {
-    typed = subst (λ f. All (λ n. IsTyped t n.1) f.values) (sym same.frame) inv.typed;
-    names = ap (λ f. map value_entity f.values) same.frame ∙ inv.names;
-    objects = ap (λ f. f.objects) same.frame ∙ inv.objects;
-    waiting = same.callers ∙ inv.waiting;
-  }
-
-  same_refl : (s : CState) → Same s s
-  same_refl s = record { frame = refl; callers = refl }
+  same_within : (scope : Declarations) (callers : List Frame) (s v : CState) → Within scope callers s → v ≡ s → Within scope callers v
+  same_within scope callers s v inv same = subst (Within scope callers) (sym same) inv
 
   comes_good : (kind : CKind) (said : Option ValueType) (r : Result CValue Trouble) → Comes t ⊥ said r → said ≡ Some (Arithmetic kind) → Good Typed r
   comes_good kind said (Ok v) h e = number_typed kind v h.typed (h.agrees (Arithmetic kind) e)
@@ -263,9 +253,9 @@ module _ (u : TranslationUnit) (target : Target) where
   module _ (no_objects : u.objects ≡ []) (externs : All ExternIsMeant u.externs) (earlier : List Function) (functions : Calls) (keep : CallsKeep earlier functions) (result : CType) (callers : List Frame) where
     declared_are : (scope : Declarations) (s : CState) → Within scope callers s → declarations p s ≡ scope
     declared_are scope s inv =
-        ap (λ os. map value_entity s.frame.values ++ (map local_entity os ++ map file_entity u.objects)) inv.objects
-        ∙ ap (λ os. map value_entity s.frame.values ++ map file_entity os) no_objects
-        ∙ append-nil (map value_entity s.frame.values)
+        ap (λ os. map value_entity s.own.values ++ (map local_entity os ++ map file_entity u.objects)) inv.objects
+        ∙ ap (λ os. map value_entity s.own.values ++ map file_entity os) no_objects
+        ∙ append-nil (map value_entity s.own.values)
         ∙ inv.names
 
     number_good : (scope : Declarations) (e : Expr) → IsNumber u target earlier result scope e → (s : CState) → Within scope callers s → Good Typed (eval p e s)
@@ -317,10 +307,20 @@ module _ (u : TranslationUnit) (target : Target) where
     with_value_keeps post scope e number next n w s inv f =
         good_given Typed post (eval p e s) (λ v. tick (next v)) n w s (number_good scope e number s inv) (λ v typed. keeps_tick IsNotStuck post (next v) n w s (λ m. f v typed m))
 
+    truth_good : (v : CValue) → Typed v → Good (λ holds. ⊤) (is_true v)
+    truth_good (Num k v) typed = tt
+    truth_good (Ptr constant base to) typed = absurd typed
+
+    with_truth_keeps : {A : Type 0} (post : A → CState → Type 0) (scope : Declarations) (e : Expr) → IsNumber u target earlier result scope e → (next : Bool → Part CState A) (n : ℕ) (w : World) (s : CState) → Within scope callers s
+        → ((holds : Bool) (m : ℕ) → Keeps IsNotStuck post (next holds m w s)) → Keeps IsNotStuck post (with_truth p e next n w s)
+    with_truth_keeps post scope e number next n w s inv f =
+        good_given (λ holds. ⊤) post (on_ok (eval p e s) is_true) (λ holds. tick (next holds)) n w s (good_on_ok Typed (λ holds. ⊤) (eval p e s) is_true (number_good scope e number s inv) truth_good)
+        (λ holds is. keeps_tick IsNotStuck post (next holds) n w s (f holds))
+
     named_within : (x : Name) (y : CScalar) (a : CValue) → Holds (Value y) a → (scope : Declarations) (s : CState) → Within scope callers s → Within ((x, ConstName (Arithmetic (Scalar y))) ∷ scope) callers (declare x a s)
     named_within x y a holds scope s inv = record {
-      typed = All-cons (λ n. IsTyped t n.1) (x, a) s.frame.values (typed_is a holds.0) inv.typed;
-      names = ap (λ ty. (x, ConstName ty) ∷ map value_entity s.frame.values) holds.1 ∙ ap (λ ds. (x, ConstName (Arithmetic (Scalar y))) ∷ ds) inv.names;
+      typed = All-cons (λ n. IsTyped t n.1) (x, a) s.own.values (typed_is a holds.0) inv.typed;
+      names = ap (λ ty. (x, ConstName ty) ∷ map value_entity s.own.values) holds.1 ∙ ap (λ ds. (x, ConstName (Arithmetic (Scalar y))) ∷ ds) inv.names;
       objects = inv.objects;
       waiting = inv.waiting;
     }
@@ -336,10 +336,11 @@ module _ (u : TranslationUnit) (target : Target) where
         good_given (AreNumbers is.called.params) (CallPost is.called.result s) (eval_all p c.args s) (λ values. tick (call p functions c.name values)) n w s (numbers_good scope is.called.params c.args is.args s inv)
         (λ values numbers. keeps_tick IsNotStuck (CallPost is.called.result s) (call p functions c.name values) n w s (λ m. call_keeps externs earlier functions keep c.name is.called values numbers m w s is.found))
 
-    used_keeps : (x : Name) (ty : CType) → IsScalar ty → (given_type : CType) (value : Option CValue) → Gives given_type value → (scope : Declarations) (in_loop : Bool) (n : ℕ) (w : World) (s : CState) → Within scope callers s
+    used_keeps : (x : Name) (ty : CType) → IsScalar ty → (given_type : CType) → IsScalar given_type → (value : CallResult) → Gives given_type value → (scope : Declarations) (in_loop : Bool) (n : ℕ) (w : World) (s : CState) → Within scope callers s
         → Keeps IsNotStuck (After (and_name x ty scope) in_loop) (used p value (declaration p x ty) n w s)
-    used_keeps x ty scalar given_type None gives scope in_loop n w s inv = λ e. cc
-    used_keeps x ty scalar given_type (Some v) gives scope in_loop n w s inv = declaration_keeps x ty scalar v (holds_typed given_type v gives) scope in_loop n w s inv
+    used_keeps x ty scalar given_type has_value Nothing gives scope in_loop n w s inv = absurd (subst IsScalar gives has_value)
+    used_keeps x ty scalar given_type has_value Missing gives scope in_loop n w s inv = λ e. cc
+    used_keeps x ty scalar given_type has_value (Gave v) gives scope in_loop n w s inv = declaration_keeps x ty scalar v (holds_typed given_type v gives) scope in_loop n w s inv
 
     left_of : (part : Part CState (Control (Option CValue))) (scope : Declarations) (in_loop : Bool) (n : ℕ) (w : World) (s : CState) → Within scope callers s → Keeps IsNotStuck (Ends in_loop) (part n w s) → Keeps IsNotStuck (Left scope in_loop) (block leave part n w s)
     left_of part scope in_loop n w s inv h = keeps_left IsNotStuck (Ends in_loop) (Left scope in_loop) leave s (part n w s) (ends_left scope in_loop s inv) h
@@ -352,17 +353,17 @@ module _ (u : TranslationUnit) (target : Target) where
       exec_keeps (Const x ty e) scope in_loop meant n w s inv =
           with_value_keeps (After (and_name x ty scope) in_loop) scope e meant.1 (declaration p x ty) n w s inv (λ v typed m. declaration_keeps x ty meant.0 v typed scope in_loop m w s inv)
       exec_keeps (ConstCall x ty c) scope in_loop meant n w s inv =
-          keeps_after IsNotStuck (CallPost meant.1.called.result s) (After (and_name x ty scope) in_loop) (call_step p functions c n w s) (λ value. tick (used p value (declaration p x ty))) (call_step_keeps scope c meant.1 n w s inv)
+          keeps_after IsNotStuck (CallPost meant.1.of_function.called.result s) (After (and_name x ty scope) in_loop) (call_step p functions c n w s) (λ value. tick (used p value (declaration p x ty))) (call_step_keeps scope c meant.1.of_function n w s inv)
           (λ value v h m later. keeps_tick IsNotStuck (After (and_name x ty scope) in_loop) (used p value (declaration p x ty)) m later v
-          (λ k. used_keeps x ty meant.0 meant.1.called.result value h.0 scope in_loop k later v (same_within scope callers s v inv h.1)))
+          (λ k. used_keeps x ty meant.0 meant.1.of_function.called.result meant.1.has_value value h.0 scope in_loop k later v (same_within scope callers s v inv h.1)))
       exec_keeps (Object x b i) scope in_loop meant n w s inv = absurd meant
       exec_keeps (Assign place e) scope in_loop meant n w s inv = absurd meant
       exec_keeps (If e a) scope in_loop meant n w s inv =
-          with_value_keeps (After scope in_loop) scope e meant.0 _ n w s inv
-          (λ v typed m. keeps_choice IsNotStuck (After scope in_loop) (is_true v) (block leave (exec_all p functions a)) (give Falls) m w s (λ is. block_of (exec_all p functions a) scope in_loop m w s inv (exec_all_keeps a scope in_loop meant.1 m w s inv)) inv)
+          with_truth_keeps (After scope in_loop) scope e meant.0 _ n w s inv
+          (λ holds m. keeps_choice IsNotStuck (After scope in_loop) holds (block leave (exec_all p functions a)) (give Falls) m w s (λ is. block_of (exec_all p functions a) scope in_loop m w s inv (exec_all_keeps a scope in_loop meant.1 m w s inv)) inv)
       exec_keeps (IfElse e a b) scope in_loop meant n w s inv =
-          with_value_keeps (After scope in_loop) scope e meant.0 _ n w s inv
-          (λ v typed m. keeps_choice IsNotStuck (After scope in_loop) (is_true v) (block leave (exec_all p functions a)) (block leave (exec_all p functions b)) m w s
+          with_truth_keeps (After scope in_loop) scope e meant.0 _ n w s inv
+          (λ holds m. keeps_choice IsNotStuck (After scope in_loop) holds (block leave (exec_all p functions a)) (block leave (exec_all p functions b)) m w s
           (λ is. block_of (exec_all p functions a) scope in_loop m w s inv (exec_all_keeps a scope in_loop meant.1 m w s inv)) (block_of (exec_all p functions b) scope in_loop m w s inv (exec_all_keeps b scope in_loop meant.2 m w s inv)))
       exec_keeps (Forever body) scope in_loop meant n w s inv =
           keeps_forever IsNotStuck (Left scope true) (After scope in_loop) (λ v h. h.1) (λ value v h. (h.0, h.1.waiting)) (block leave (exec_all p functions body)) (λ v h m later. left_of (exec_all p functions body) scope true m later v h (exec_all_keeps body scope true meant m later v h)) n w s inv
@@ -400,8 +401,8 @@ module _ (u : TranslationUnit) (target : Target) where
   bound_names (x ∷ xs) [] h = absurd h
   bound_names (x ∷ xs) (a ∷ args) h = ap (λ ds. (x.name, ConstName (held_type a)) ∷ ds) (bound_names xs args h.1) ∙ bound_named x.name x.ty a (of_params xs) h.0
 
-  returned_same : (s v : CState) (callers : List Frame) → callers ≡ s.frame ∷ s.callers → Same s (back_to callers v)
-  returned_same s v callers e = subst (λ fs. Same s (back_to fs v)) (sym e) (record { frame = refl; callers = refl })
+  popped_same : (s v : CState) → v.callers ≡ s.own ∷ s.callers → pop_frame v ≡ s
+  popped_same s v e = ap (without v.own) e
 
   -- control as it leaves a function
   abbrev Gone : CType → Control (Option CValue) → Type 0
@@ -409,34 +410,36 @@ module _ (u : TranslationUnit) (target : Target) where
   Gone result Broke = ⊥
   Gone result (Returned value) = Returns result value
 
-  value_keeps : (result : CType) (control : Control (Option CValue)) → Gone result control → (s v : CState) → Same s v → (n : ℕ) (w : World) → Keeps IsNotStuck (CallPost result s) (function_value p result control n w v)
-  value_keeps result Falls h s v same n w = (tt, same)
+  value_keeps : (result : CType) (control : Control (Option CValue)) → Gone result control → (s v : CState) → v ≡ s → (n : ℕ) (w : World) → Keeps IsNotStuck (CallPost result s) (function_value p result control n w v)
+  value_keeps Void Falls h s v same n w = (refl, same)
+  value_keeps (Value y) Falls h s v same n w = (tt, same)
+  value_keeps (Pointer constant base) Falls h s v same n w = (tt, same)
   value_keeps result Broke h s v same n w = absurd h
-  value_keeps Void (Returned None) h s v same n w = (tt, same)
+  value_keeps Void (Returned None) h s v same n w = (refl, same)
   value_keeps (Value y) (Returned None) h s v same n w = let no : ⊥ = cc in absurd no
   value_keeps (Pointer constant base) (Returned None) h s v same n w = let no : ⊥ = cc in absurd no
   value_keeps result (Returned (Some value)) h s v same n w =
-      good_given (Holds result) (CallPost result s) (as_assigned target result value) (λ a. give (Some a)) n w v (assigned_good result h.0 value h.1) (λ a holds. (holds, same))
+      good_given (Holds result) (CallPost result s) (as_assigned target result value) (λ a. give (Gave a)) n w v (assigned_good result h.0 value h.1) (λ a holds. (holds, same))
 
   module _ (no_objects : u.objects ≡ []) (externs : All ExternIsMeant u.externs) where
     module _ (earlier : List Function) (functions : Calls) (keep : CallsKeep earlier functions) (f : Function) (meant : FunctionIsMeant u target earlier f) where
       abbrev LeftIn : CState → Control (Option CValue) → CState → Type 0
-      LeftIn s = Left no_objects externs earlier functions keep f.result (s.frame ∷ s.callers) (of_params f.params) false
+      LeftIn s = Left no_objects externs earlier functions keep f.result (s.own ∷ s.callers) (of_params f.params) false
 
-      gone : (s : CState) (control : Control (Option CValue)) (v : CState) → LeftIn s control v → Gone f.result control × Same s (return_from v)
-      gone s Falls v h = (tt, returned_same s v v.callers h.waiting)
+      gone : (s : CState) (control : Control (Option CValue)) (v : CState) → LeftIn s control v → Gone f.result control × (pop_frame v ≡ s)
+      gone s Falls v h = (tt, popped_same s v h.waiting)
       gone s Broke v h = let no : ⊥ = (let broke : IsTrue false = h.0 in cc) in absurd no
-      gone s (Returned value) v h = (h.0, returned_same s v v.callers h.1.waiting)
+      gone s (Returned value) v h = (h.0, popped_same s v h.1.waiting)
 
       body_keeps : (args : List CValue) → AreHeld (param_types f.params) args → (n : ℕ) (w : World) (s : CState) → Keeps IsNotStuck (CallPost f.result s) (function_body p functions f args n w s)
       body_keeps args held n w s =
           let inner : CState = enter (bound f.params args) s in
           let body : Part CState (Control (Option CValue)) = block leave (exec_all p functions f.body) in
-          let mid : Control (Option CValue) → CState → Type 0 = λ control v. Gone f.result control × Same s v in
-          let within : Within (of_params f.params) (s.frame ∷ s.callers) inner = record { typed = bound_typed f.params args held; names = bound_names f.params args held; objects = refl; waiting = refl } in
+          let mid : Control (Option CValue) → CState → Type 0 = λ control v. Gone f.result control × (v ≡ s) in
+          let within : Within (of_params f.params) (s.own ∷ s.callers) inner = record { typed = bound_typed f.params args held; names = bound_names f.params args held; objects = refl; waiting = refl } in
           keeps_after IsNotStuck mid (CallPost f.result s) (in_own_frame (bound f.params args) body n w s) (function_value p f.result)
-          (keeps_left IsNotStuck (LeftIn s) mid (λ before after. return_from after) s (body n w inner) (gone s)
-          (left_keeps no_objects externs earlier functions keep f.result (s.frame ∷ s.callers) f.body (of_params f.params) false meant.body n w inner within))
+          (keeps_in_frame IsNotStuck (LeftIn s) mid (enter (bound f.params args)) pop_frame body n w s (gone s)
+          (left_keeps no_objects externs earlier functions keep f.result (s.own ∷ s.callers) f.body (of_params f.params) false meant.body n w inner within))
           (λ control v h m later. value_keeps f.result control h.0 s v h.1 m later)
 
       function_keeps : (values : List CValue) → AreNumbers (param_types f.params) values → (n : ℕ) (w : World) (s : CState) → Keeps IsNotStuck (CallPost f.result s) (function_call p functions f values n w s)
@@ -455,18 +458,17 @@ module _ (u : TranslationUnit) (target : Target) where
 
       -- ---- entry calls
 
-      entry_result_keeps : (result : CType) → IsResult result → (value : Option CValue) → Gives result value → (n : ℕ) (w : World) (s : CState) → Keeps IsNotStuck (λ number v. ⊤) (entry_result p result value n w s)
-      entry_result_keeps Void is value gives n w s = tt
-      entry_result_keeps (Value y) is None gives n w s = λ e. cc
-      entry_result_keeps (Value y) is (Some (Num k v)) gives n w s = tt
-      entry_result_keeps (Value y) is (Some (Ptr constant base to)) gives n w s = absurd gives.0
-      entry_result_keeps (Pointer constant base) is value gives n w s = absurd is
+      entry_result_keeps : (value : CallResult) → Gives f.result value → (n : ℕ) (w : World) (s : CState) → Keeps IsNotStuck (λ number v. ⊤) (entry_result p value n w s)
+      entry_result_keeps Nothing gives n w s = tt
+      entry_result_keeps Missing gives n w s = λ e. cc
+      entry_result_keeps (Gave (Num k v)) gives n w s = tt
+      entry_result_keeps (Gave (Ptr constant base to)) gives n w s = absurd (holds_typed f.result (Ptr constant base to) gives)
 
       entered_keeps : (values : List ℤ) → Good (AreNumbers (param_types f.params)) (entry_values (param_types f.params) values) → (n : ℕ) (w : World) (s : CState) → Keeps IsNotStuck (λ number v. ⊤) (entered p functions f values n w s)
       entered_keeps values good n w s =
           good_given (AreNumbers (param_types f.params)) (λ number v. ⊤) (entry_values (param_types f.params) values) _ n w s good
-          (λ args numbers. keeps_after IsNotStuck (CallPost f.result s) (λ number v. ⊤) (function_call p functions f args n w s) (entry_result p f.result) (function_keeps args numbers n w s)
-          (λ value v h m later. entry_result_keeps f.result meant.result value h.0 m later v))
+          (λ args numbers. keeps_after IsNotStuck (CallPost f.result s) (λ number v. ⊤) (function_call p functions f args n w s) (entry_result p) (function_keeps args numbers n w s)
+          (λ value v h m later. entry_result_keeps value h.0 m later v))
 
     -- the plain types of parameters, and what numbers that fit them are
     record PlainParams (xs : List CParam) : Type 0 where

@@ -28,9 +28,15 @@ abbrev pub given : {A B : Type 0} → Program → Result A Trouble → (A → Pa
 given p (Ok a) next = next a
 given p (Err trouble) next = troubled p trouble
 
--- What a call of a function by its name comes to, on the values of its arguments: its value, if it gives one.
+-- What a call comes to: nothing, where its function is `void`; no value, where one with a result reached its `}` (6.9.1); or a value.
+pub data CallResult : Type 0 where
+  Nothing : CallResult
+  Missing : CallResult
+  Gave : CValue → CallResult
+
+-- what a call of a function by its name comes to, on the values of its arguments
 abbrev pub Calls : Type 0
-Calls = Name → List CValue → Part CState (Option CValue)
+Calls = Name → List CValue → Part CState CallResult
 
 -- where no function is declared
 abbrev pub no_functions : Program → Calls
@@ -38,13 +44,13 @@ no_functions p name values = troubled p Stuck
 
 -- ---- the function that ends the run at a check, declared as `void ivory_stop(uint32_t)`
 
-abbrev pub stop_at : Program → List CValue → Part CState (Option CValue)
+abbrev pub stop_at : Program → List CValue → Part CState CallResult
 stop_at p [] = troubled p Stuck
 stop_at p (Num kind site ∷ []) = halt (seen p) (FailedCheck (unsigned_abs site))
 stop_at p (Ptr constant base to ∷ []) = troubled p Stuck
 stop_at p (v ∷ u ∷ vs) = troubled p Stuck
 
-abbrev pub stop_call : Program → List CValue → Part CState (Option CValue)
+abbrev pub stop_call : Program → List CValue → Part CState CallResult
 stop_call p values = given p (as_arguments p.target (Value (Int U32) ∷ []) values) (stop_at p)
 
 -- ---- the call of an `extern`: the outside sees its arguments in the types of its parameters, and replies
@@ -62,34 +68,34 @@ reply_shape (Value s) = plain_of s ∷ []
 reply_shape (Pointer constant base) = []
 
 -- the value of the call, from those of the reply
-abbrev pub reply_value : CType → List ℤ → Result (Option CValue) Trouble
-reply_value Void vs = Ok None
+abbrev pub reply_value : CType → List ℤ → Result CallResult Trouble
+reply_value Void vs = Ok Nothing
 reply_value (Value s) [] = Err Stuck
-reply_value (Value s) (v ∷ vs) = Ok (Some (Num (Scalar s) v))
+reply_value (Value s) (v ∷ vs) = Ok (Gave (Num (Scalar s) v))
 reply_value (Pointer constant base) vs = Err Stuck
 
-abbrev pub outside_with : Program → CExtern → List Piece → Part CState (Option CValue)
+abbrev pub outside_with : Program → CExtern → List Piece → Part CState CallResult
 outside_with p x pieces = bind (import_call (seen p) (outer_name x.name) pieces (reply_shape x.result)) (λ reply. given p (reply_value x.result reply) give)
 
-abbrev pub outside : Program → CExtern → List CValue → Part CState (Option CValue)
+abbrev pub outside : Program → CExtern → List CValue → Part CState CallResult
 outside p x args = given p (pieces_of args) (outside_with p x)
 
 -- no reply gives a pointer
-abbrev pub extern_call_of : Program → CExtern → CType → List CValue → Part CState (Option CValue)
+abbrev pub extern_call_of : Program → CExtern → CType → List CValue → Part CState CallResult
 extern_call_of p x Void values = given p (as_arguments p.target x.params values) (outside p x)
 extern_call_of p x (Value s) values = given p (as_arguments p.target x.params values) (outside p x)
 extern_call_of p x (Pointer constant base) values = troubled p Stuck
 
-abbrev pub extern_call : Program → CExtern → List CValue → Part CState (Option CValue)
+abbrev pub extern_call : Program → CExtern → List CValue → Part CState CallResult
 extern_call p x values = extern_call_of p x x.result values
 
 -- ---- any call
 
 -- an `extern`, or else a function of the unit
-abbrev pub call_found : Program → Calls → Name → List CValue → Option CExtern → Part CState (Option CValue)
+abbrev pub call_found : Program → Calls → Name → List CValue → Option CExtern → Part CState CallResult
 call_found p functions name values (Some x) = extern_call p x values
 call_found p functions name values None = functions name values
 
-abbrev pub call : Program → Calls → Name → List CValue → Part CState (Option CValue)
+abbrev pub call : Program → Calls → Name → List CValue → Part CState CallResult
 call p functions name values =
     if same_word name stop_name then stop_call p values else call_found p functions name values (find (λ x. same_word x.name name) p.unit.externs)

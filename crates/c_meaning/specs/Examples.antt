@@ -19,8 +19,6 @@ use Rattle.c_ast.specs.declared.CBase.TheVariants as base
 use Rattle.c_ast.specs.declared.CBinary.TheVariants.{Div, Lt}
 use Rattle.c_ast.specs.Syntax.{Name, Expr, Number, Read, Binary, Var, Stmt, Const, ConstCall, Object, If, IfElse, Forever, Break, Return, Block, Call, Nil, Function, TranslationUnit}
 use Rattle.c_ast.specs.Examples.{rows, procedure, unit_with}
-use Rattle.step_semantics.specs.Runs.{end_of}
-use Rattle.c_meaning.specs.State.{shown_as_stuck}
 use Rattle.c_meaning.specs.Meant.{UnitIsMeant}
 use Rattle.c_meaning.specs.Laws.{no_site, watched}
 use Rattle.c_meaning.specs.Runs.{run_program, run_c}
@@ -53,9 +51,12 @@ once u n = run_c u T32 (main_script []) n
 abbrev pub outcome_of : List Event → End → Outcome
 outcome_of events end = record { events = events; end = end; areas = [] }
 
--- a run that is stuck
-abbrev pub stuck : End
-stuck = end_of shown_as_stuck
+-- the same of a unit that is watched, and a run of it that is stuck
+abbrev pub watched_once : TranslationUnit → ℕ → Outcome
+watched_once u n = run_program (watched u T32) (main_script []) n
+
+abbrev pub lost : Outcome
+lost = outcome_of [] (Stopped no_site)
 
 abbrev pub led : ℤ → Event
 led v = event.Call (codes "led") (piece.Value v ∷ [])
@@ -78,7 +79,7 @@ NoCalls = run_c (blinking []) T32 (record { calls = []; replies = [] }) 0 ≡ ou
 
 -- a function with `static` is not found
 abbrev pub HiddenMain : Type 0
-HiddenMain = once (unit_with [] (procedure true (codes "iv_main") [] ∷ [])) 1 ≡ outcome_of [] stuck
+HiddenMain = watched_once (unit_with [] (procedure true (codes "iv_main") [] ∷ [])) 1 ≡ lost
 
 -- ---- calls of an `extern`
 
@@ -150,7 +151,7 @@ CallsEarlierInSteps = once earlier_function 4 ≡ outcome_of (led (pos 1) ∷ []
 
 -- but not itself
 abbrev pub CallsItself : Type 0
-CallsItself = once (blinking (plain_call (codes "iv_main") ∷ [])) 9 ≡ outcome_of [] stuck
+CallsItself = watched_once (blinking (plain_call (codes "iv_main") ∷ [])) 9 ≡ lost
 
 -- ---- loops, `break`, `return` and blocks
 
@@ -208,8 +209,14 @@ abbrev pub shows_result : CType → ℕ → List Stmt
 shows_result t v = ConstCall (codes "iv_r") t (record { name = codes "iv_f"; args = number v ∷ [] }) ∷ Call (record { name = codes "iv_led"; args = name (codes "iv_r") ∷ [] }) ∷ []
 
 -- an entry call gives the value of its function, which is converted to its type where it returns
+abbrev pub exporting : CType → List Stmt → TranslationUnit
+exporting result body = unit_with [] (of_byte false result body ∷ [])
+
+abbrev pub script_of : ℤ → Script
+script_of v = record { calls = record { name = codes "f"; values = v ∷ []; line = 1 } ∷ []; replies = [] }
+
 abbrev pub entry_of : CType → List Stmt → ℤ → ℕ → Outcome
-entry_of result body v n = run_c (unit_with [] (of_byte false result body ∷ [])) T32 (record { calls = record { name = codes "f"; values = v ∷ []; line = 1 } ∷ []; replies = [] }) n
+entry_of result body v n = run_c (exporting result body) T32 (script_of v) n
 
 abbrev pub gives : ℤ → Event
 gives v = event.Ret (codes "f") (Some v)
@@ -221,7 +228,7 @@ pub record EntryValueExamples : Type 0 where
   pub as_truth : entry_of truth (Return (Some (name (codes "iv_x"))) ∷ []) (pos 200) 2 ≡ outcome_of (gives (pos 1) ∷ []) Ended
   pub nothing : entry_of Void [] (pos 200) 1 ≡ outcome_of (event.Ret (codes "f") None ∷ []) Ended
   pub dropped : entry_of byte [] (pos 200) 1 ≡ outcome_of [] (Undefined NoValue)
-  pub wrong_return : entry_of byte (Return None ∷ []) (pos 200) 2 ≡ outcome_of [] stuck
+  pub wrong_return : run_program (watched (exporting byte (Return None ∷ [])) T32) (script_of (pos 200)) 2 ≡ lost
 
 -- a call takes a step, the `return` one, and the declaration of its value one more
 pub record CallValueExamples : Type 0 where
@@ -232,15 +239,15 @@ pub record CallValueExamples : Type 0 where
   pub used : once (calling byte [] (shows_result byte 9)) 5 ≡ outcome_of [] (Undefined NoValue)
   pub unused_yet : once (calling byte [] (shows_result byte 9)) 2 ≡ outcome_of [] Going
   pub dropped : once (calling byte [] (Call (record { name = codes "iv_f"; args = number 9 ∷ [] }) ∷ [])) 2 ≡ outcome_of (returned ∷ []) Ended
-  pub wrong_count : once (calling byte [] (plain_call (codes "iv_f") ∷ [])) 2 ≡ outcome_of [] stuck
-  pub hides_callers : once (calling byte (Return (Some (name (codes "iv_y"))) ∷ []) (Const (codes "iv_y") byte (number 1) ∷ shows_result byte 9)) 9 ≡ outcome_of [] stuck
+  pub wrong_count : watched_once (calling byte [] (plain_call (codes "iv_f") ∷ [])) 2 ≡ lost
+  pub hides_callers : watched_once (calling byte (Return (Some (name (codes "iv_y"))) ∷ []) (Const (codes "iv_y") byte (number 1) ∷ shows_result byte 9)) 9 ≡ lost
 
 -- a name is declared in a step and ends with its block; a condition takes a step
 pub record NameAndConditionExamples : Type 0 where
   pub declared : once (blinking (Const (codes "iv_y") byte (number 257) ∷ Call (record { name = codes "iv_led"; args = name (codes "iv_y") ∷ [] }) ∷ [])) 3 ≡ outcome_of (led (pos 1) ∷ returned ∷ []) Ended
   pub not_yet : once (blinking (Const (codes "iv_y") small (number 200) ∷ [])) 1 ≡ outcome_of [] Going
   pub too_great : once (blinking (Const (codes "iv_y") small (number 200) ∷ [])) 2 ≡ outcome_of [] (Undefined Implementation)
-  pub ended : once (blinking (Block (rows (Const (codes "iv_y") byte (number 1) ∷ [])) ∷ Call (record { name = codes "iv_led"; args = name (codes "iv_y") ∷ [] }) ∷ [])) 9 ≡ outcome_of [] stuck
+  pub ended : watched_once (blinking (Block (rows (Const (codes "iv_y") byte (number 1) ∷ [])) ∷ Call (record { name = codes "iv_led"; args = name (codes "iv_y") ∷ [] }) ∷ [])) 9 ≡ lost
   pub taken : once (blinking (If (number 2) (rows (pass (codes "iv_led") 1 ∷ [])) ∷ [])) 3 ≡ outcome_of (led (pos 1) ∷ returned ∷ []) Ended
   pub not_taken : once (blinking (If (number 0) (rows (pass (codes "iv_led") 1 ∷ [])) ∷ [])) 2 ≡ outcome_of (returned ∷ []) Ended
   pub first : once (blinking (IfElse (number 1) (rows (pass (codes "iv_led") 1 ∷ [])) (rows (pass (codes "iv_led") 0 ∷ [])) ∷ [])) 3 ≡ outcome_of (led (pos 1) ∷ returned ∷ []) Ended
@@ -249,17 +256,13 @@ pub record NameAndConditionExamples : Type 0 where
 
 -- ---- being stuck
 
--- as the run of a watched unit shows it
-abbrev pub watched_once : TranslationUnit → ℕ → Outcome
-watched_once u n = run_program (watched u T32) (main_script []) n
-
-abbrev pub lost : Outcome
-lost = outcome_of [] (Stopped no_site)
-
 pub record StuckExamples : Type 0 where
   pub object : watched_once (blinking (Object (codes "iv_y") (base.Scalar Truth) None ∷ [])) 9 ≡ lost
-  pub itself : watched_once (blinking (plain_call (codes "iv_main") ∷ [])) 9 ≡ lost
+  pub shown : once (blinking (Object (codes "iv_y") (base.Scalar Truth) None ∷ [])) 9 ≡ outcome_of [] (Undefined NoValue)
   pub unknown : watched_once (blinking (Const (codes "iv_y") byte (name (codes "iv_x")) ∷ [])) 9 ≡ lost
+  pub no_value : watched_once (calling Void [] (shows_result byte 9)) 9 ≡ lost
+  pub returned_without : watched_once (calling Void (Return None ∷ []) (shows_result byte 9)) 9 ≡ lost
+  pub outside_without : watched_once (blinking (ConstCall (codes "iv_y") byte (record { name = codes "iv_led"; args = number 1 ∷ [] }) ∷ [])) 9 ≡ outcome_of (led (pos 1) ∷ []) (Stopped no_site)
   pub undefined : watched_once (signed_led 128) 9 ≡ outcome_of [] (Undefined Implementation)
 
 -- units with externs, parameters, results, conditions and loops are among those of the law

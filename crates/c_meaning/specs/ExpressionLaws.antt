@@ -19,7 +19,7 @@ abbrev pub FrameIsTyped : TargetTable → Frame → Type 0
 FrameIsTyped t f = All (λ n. IsTyped t n.1) f.values
 
 abbrev pub NamesAreTyped : TargetTable → CState → Type 0
-NamesAreTyped t s = FrameIsTyped t s.frame
+NamesAreTyped t s = FrameIsTyped t s.own
 
 -- its number is one of its type, and its type is that of its expression, where that has one
 pub record HasItsType (t : TargetTable) (of_expression : Option ValueType) (v : CValue) : Type 0 where
@@ -49,7 +49,7 @@ IsOfNumbers others (Cast Void e) = others
 IsOfNumbers others (Cond c a b) = IsOfNumbers others c × IsOfNumbers others a × IsOfNumbers others b
 
 abbrev pub HasNoObjects : Program → CState → Type 0
-HasNoObjects p s = (s.frame.objects ≡ []) × (p.unit.objects ≡ [])
+HasNoObjects p s = (s.own.objects ≡ []) × (p.unit.objects ≡ [])
 
 abbrev pub TypedNumbersAreNotStuck : Type 0
 TypedNumbersAreNotStuck =

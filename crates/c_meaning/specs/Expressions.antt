@@ -35,7 +35,7 @@ eval p (Unary op e) s = on_ok (eval p e s) (unary (table_of p.target) op)
 eval p (Binary op a b) s = on_ok (eval p a s) (λ v. binary (table_of p.target) op v (eval p b s))
 eval p (Cast to e) s = on_ok (eval p e s) (as_assigned p.target to)
 eval p (Cond c a b) s =
-    on_ok (eval p c s) (λ v. as_common (table_of p.target) (static_type p s (Cond c a b)) (if is_true v then eval p a s else eval p b s))
+    on_ok (on_ok (eval p c s) is_true) (λ holds. as_common (table_of p.target) (static_type p s (Cond c a b)) (if holds then eval p a s else eval p b s))
 
 abbrev pub eval_all : Program → List Expr → CState → Result (List CValue) Trouble
 eval_all p [] s = Ok []

@@ -1,27 +1,20 @@
 -- What holds of every run of C, and when a run is never stuck.
-use Rattle.std.specs.Prelude.{◌≢◌, ⊤, ℕ, ◌^◌, List}
+use Rattle.std.specs.Prelude.{◌≢◌, ℕ, ◌^◌}
 use Rattle.iv_script.specs.declared.End.TheVariants.{Stopped}
 use Rattle.iv_script.specs.declared.Script.{Script}
 use Rattle.iv_script.specs.Scripts.{Fits}
-use Rattle.step_semantics.specs.Steps.{World, Halt, FailedCheck, Part}
-use Rattle.step_semantics.specs.Safe.{Keeps}
-use Rattle.step_semantics.specs.Lawful.{Lawful}
+use Rattle.step_semantics.specs.Steps.{Halt, FailedCheck}
 use Rattle.step_semantics.specs.Outcomes.{OutcomeLaws}
 use Rattle.c_ast.specs.declared.Target.{Target}
 use Rattle.c_ast.specs.Exports.{c_exports}
-use Rattle.c_ast.specs.Syntax.{Name, TranslationUnit}
-use Rattle.c_meaning.specs.Values.{CValue}
-use Rattle.c_meaning.specs.Calls.{Calls}
-use Rattle.c_meaning.specs.State.{Program, CState}
+use Rattle.c_ast.specs.Syntax.{TranslationUnit}
+use Rattle.c_meaning.specs.State.{Program}
 use Rattle.c_meaning.specs.Meant.{UnitIsMeant}
 use Rattle.c_meaning.specs.Runs.{run_program, run_c}
 
 -- for each number of steps there is one outcome; more steps only add events, and an end is the end
 abbrev pub RunLaws : Type 0
 RunLaws = (u : TranslationUnit) (t : Target) (script : Script) → OutcomeLaws (run_c u t script)
-
-abbrev pub LawfulCalls : Calls → Type 0
-LawfulCalls functions = (name : Name) (values : List CValue) → Lawful (functions name values)
 
 -- ---- being stuck
 
@@ -36,14 +29,10 @@ watched u t = record { target = t; unit = u; stuck = FailedCheck no_site }
 abbrev pub IsNotStuck : Halt → Type 0
 IsNotStuck how = how ≢ FailedCheck no_site
 
--- a part of such a run that is not stuck, from whatever state; its end and its steps are free
-abbrev pub PartIsNeverStuck : {A : Type 0} → Part CState A → Type 0
-PartIsNeverStuck part = (n : ℕ) (w : World) (s : CState) → Keeps IsNotStuck (λ a u. ⊤) (part n w s)
-
 -- no run of a script that fits is ever stuck
 abbrev pub NeverStuck : TranslationUnit → Target → Type 0
 NeverStuck u t = (script : Script) → Fits script (c_exports u) → (n : ℕ) → (run_program (watched u t) script n).end ≢ Stopped no_site
 
--- so it is of each unit of the forms that have a meaning, where it keeps the rules of names and types
+-- so it is of each unit of the forms that have a meaning, where its expressions and calls are typed
 abbrev pub MeantUnitsAreNeverStuck : Type 0
 MeantUnitsAreNeverStuck = (u : TranslationUnit) (t : Target) → UnitIsMeant u t → NeverStuck u t

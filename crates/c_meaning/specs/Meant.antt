@@ -1,5 +1,5 @@
--- Units of the forms that have a meaning so far, and that keep the rules of names and types: numbers, const names, calls, conditions,
--- loops, blocks, `break` and `return`. Objects and pointers are none of them.
+-- Units of the forms that have a meaning so far, whose expressions and calls are typed: numbers, const names, calls, conditions,
+-- loops, blocks, `break` and `return`. Objects and pointers are none of them. Of how names are chosen nothing is asked.
 use Rattle.std.specs.Prelude.{◌≡◌, ⊤, List, [], ◌∷◌, map, Bool, true, false, IsTrue, Option, Some, None, if◌then◌else◌, All}
 use Rattle.std.specs.List.{find}
 use Rattle.iv_words.specs.Words.{same_word}
@@ -98,10 +98,15 @@ module _ (u : TranslationUnit) (target : Target) (earlier : List Function) (resu
     pub found : signature_of u earlier c.name ≡ Some called
     pub args : AreGiven scope called.params c.args
 
+  -- a call whose value is used
+  pub record IsUsedCall (scope : Declarations) (c : FunctionCall) : Type 0 where
+    pub of_function : IsCall scope c
+    pub has_value : IsScalar of_function.called.result
+
   abbrev mutual
     pub IsMeant : Declarations → (in_loop : Bool) → Stmt → Type 0
     IsMeant scope in_loop (Const x t e) = IsScalar t × IsNumber scope e
-    IsMeant scope in_loop (ConstCall x t c) = IsScalar t × IsCall scope c
+    IsMeant scope in_loop (ConstCall x t c) = IsScalar t × IsUsedCall scope c
     IsMeant scope in_loop (Object x b i) = ⊥
     IsMeant scope in_loop (Assign place e) = ⊥
     IsMeant scope in_loop (If e a) = IsNumber scope e × AreMeant scope in_loop a

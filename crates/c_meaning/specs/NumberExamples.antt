@@ -10,7 +10,7 @@ use Rattle.c_ast.specs.declared.CKind.TheVariants.{Scalar, Arith as Computed}
 use Rattle.c_ast.specs.declared.CUnary.{CUnary}
 use Rattle.c_ast.specs.declared.CUnary.TheVariants.{Neg, Flip, Not}
 use Rattle.c_ast.specs.declared.CBinary.{CBinary}
-use Rattle.c_ast.specs.declared.CBinary.TheVariants.{Add, Sub, Mul, Div, Rem, And, Or, Xor, Shl, Shr, Eq, Ne, Lt, Le, Gt, Ge}
+use Rattle.c_ast.specs.declared.CBinary.TheVariants.{Add, Sub, Mul, Div, Rem, And, Or, Xor, Shl, Shr, Eq, Ne, Lt, Le, Gt, Ge, AndAlso, OrElse}
 use Rattle.c_ast.specs.Targets.{table_of}
 use Rattle.c_ast.specs.TargetExamples.{narrow}
 use Rattle.c_ast.specs.declared.CBase.TheVariants as base
@@ -187,3 +187,6 @@ pub record PointerExamples : Type 0 where
   pub equal : with Eq pointer pointer ≡ Err Stuck
   pub shifted : with Shl pointer (int (pos 1)) ≡ Err Stuck
   pub opposite : of_one Neg pointer ≡ Err Stuck
+  pub negated : of_one Not pointer ≡ Err Stuck
+  pub decided : with OrElse pointer (int (pos 1)) ≡ Err Stuck
+  pub tested : with AndAlso (int (pos 1)) pointer ≡ Err Stuck

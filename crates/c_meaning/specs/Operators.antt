@@ -84,6 +84,10 @@ computed c r = with_number r (λ v. Ok (Num (Computed c) v))
 abbrev pub truth : Bool → CValue
 truth holds = Num (Computed Int) (if holds then pos 1 else pos 0)
 
+-- whether a value is true, as that int
+abbrev pub tested : CValue → Result CValue Trouble
+tested v = on_ok (is_true v) (λ holds. Ok (truth holds))
+
 abbrev pub converted_or : Option ℤ → Result ℤ Reason
 converted_or None = Err Implementation
 converted_or (Some v) = Ok v
@@ -131,7 +135,7 @@ unary t Neg (Num k v) = computed (promoted t k) (fitted (arith_bits t (promoted 
 unary t Flip (Num k v) = computed (promoted t k) (Ok (flipped (arith_bits t (promoted t k)) (arith_signed (promoted t k)) v))
 unary t Neg (Ptr constant base to) = Err Stuck
 unary t Flip (Ptr constant base to) = Err Stuck
-unary t Not v = Ok (truth (not (is_true v)))
+unary t Not v = on_ok (is_true v) (λ holds. Ok (truth (not holds)))
 
 -- On the value of the left operand, and what the right one comes to. `&&` and `||` look at the right one only where the left one
 -- does not decide (6.5.13, 6.5.14).
@@ -152,5 +156,5 @@ binary t Lt a b = on_ok b (compared t int_lt a)
 binary t Le a b = on_ok b (compared t int_le a)
 binary t Gt a b = on_ok b (compared t (λ x y. int_lt y x) a)
 binary t Ge a b = on_ok b (compared t (λ x y. int_le y x) a)
-binary t AndAlso a b = if is_true a then on_ok b (λ v. Ok (truth (is_true v))) else Ok (truth false)
-binary t OrElse a b = if is_true a then Ok (truth true) else on_ok b (λ v. Ok (truth (is_true v)))
+binary t AndAlso a b = on_ok (is_true a) (λ holds. if holds then on_ok b tested else Ok (truth false))
+binary t OrElse a b = on_ok (is_true a) (λ holds. if holds then Ok (truth true) else on_ok b tested)

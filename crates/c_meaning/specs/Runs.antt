@@ -16,19 +16,21 @@ use Rattle.c_ast.specs.Syntax.{Name, FileObject, Function, TranslationUnit}
 use Rattle.c_ast.specs.Names.{outer_name}
 use Rattle.c_meaning.specs.Values.{Trouble, Undefined, Stuck, CValue, Num, Ptr, on_ok, as_assigned, as_arguments}
 use Rattle.c_meaning.specs.State.{Program, program_of, end_in, CState, at_rest, seen, leave, in_own_frame}
-use Rattle.c_meaning.specs.Calls.{troubled, given, Calls, no_functions}
+use Rattle.c_meaning.specs.Calls.{troubled, given, CallResult, Nothing, Missing, Gave, Calls, no_functions}
 use Rattle.c_meaning.specs.Statements.{exec_all}
 
 -- ---- functions
 
 -- What a function gives back where control leaves its body: at the `}` no value, at a `return` its value, converted to the type
--- of the result as by assignment (6.8.6.4, 6.9.1).
-abbrev pub function_value : Program → CType → Control (Option CValue) → Part CState (Option CValue)
-function_value p result Falls = give None
-function_value p Void (Returned None) = give None
+-- of the result as by assignment (6.8.6.4, 6.9.1); and one that is `void` gives nothing.
+abbrev pub function_value : Program → CType → Control (Option CValue) → Part CState CallResult
+function_value p Void Falls = give Nothing
+function_value p (Value s) Falls = give Missing
+function_value p (Pointer constant base) Falls = give Missing
+function_value p Void (Returned None) = give Nothing
 function_value p (Value s) (Returned None) = troubled p Stuck
 function_value p (Pointer constant base) (Returned None) = troubled p Stuck
-function_value p result (Returned (Some v)) = given p (as_assigned p.target result v) (λ a. give (Some a))
+function_value p result (Returned (Some v)) = given p (as_assigned p.target result v) (λ a. give (Gave a))
 function_value p result Broke = troubled p Stuck
 
 abbrev pub param_types : List CParam → List CType
@@ -41,11 +43,11 @@ bound (x ∷ xs) [] = []
 bound (x ∷ xs) (v ∷ vs) = (x.name, v) ∷ bound xs vs
 
 -- the body is a block in the frame of the parameters; the value is taken once both have been left
-abbrev pub function_body : Program → Calls → Function → List CValue → Part CState (Option CValue)
+abbrev pub function_body : Program → Calls → Function → List CValue → Part CState CallResult
 function_body p earlier f args = bind (in_own_frame (bound f.params args) (block leave (exec_all p earlier f.body))) (function_value p f.result)
 
 -- a function that is called with these values, which are converted as by assignment (6.5.2.2)
-abbrev pub function_call : Program → Calls → Function → List CValue → Part CState (Option CValue)
+abbrev pub function_call : Program → Calls → Function → List CValue → Part CState CallResult
 function_call p earlier f values = given p (as_arguments p.target (param_types f.params) values) (function_body p earlier f)
 
 -- one function more that those after it may call
@@ -54,13 +56,12 @@ with_function p earlier f name values = if same_word f.name name then function_c
 
 -- ---- entry calls
 
--- what the outside gets of a function: of `void` nothing, and else its value, which it uses (6.9.1)
-abbrev pub entry_result : Program → CType → Option CValue → Part CState (Option ℤ)
-entry_result p Void value = give None
-entry_result p (Value s) None = troubled p (Undefined NoValue)
-entry_result p (Value s) (Some (Num kind v)) = give (Some v)
-entry_result p (Value s) (Some (Ptr constant base to)) = troubled p Stuck
-entry_result p (Pointer constant base) value = troubled p Stuck
+-- what the outside gets of a call: nothing, or else its value, which it uses (6.9.1)
+abbrev pub entry_result : Program → CallResult → Part CState (Option ℤ)
+entry_result p Nothing = give None
+entry_result p Missing = troubled p (Undefined NoValue)
+entry_result p (Gave (Num kind v)) = give (Some v)
+entry_result p (Gave (Ptr constant base to)) = troubled p Stuck
 
 -- the numbers of the script as values of the parameters' types
 abbrev pub entry_values : List CType → List ℤ → Result (List CValue) Trouble
@@ -73,7 +74,7 @@ entry_values (Value s ∷ ts) (v ∷ vs) = on_ok (entry_values ts vs) (λ rest. 
 
 -- a function that the outside calls, with the numbers of the script
 abbrev pub entered : Program → Calls → Function → List ℤ → Part CState (Option ℤ)
-entered p earlier f values = given p (entry_values (param_types f.params) values) (λ args. bind (function_call p earlier f args) (entry_result p f.result))
+entered p earlier f values = given p (entry_values (param_types f.params) values) (λ args. bind (function_call p earlier f args) (entry_result p))
 
 -- the function that the outside calls by this name, without `static`, among those that are left to look at; it may call those before it
 abbrev pub entry_among : Program → Calls → List Function → Name → List ℤ → Part CState (Option ℤ)

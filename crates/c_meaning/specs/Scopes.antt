@@ -13,7 +13,7 @@ named (n ∷ names) x = if same_word n.0 x then Some n.1 else named names x
 
 -- the value that a name holds in a state
 abbrev pub name_value : CState → Name → Option CValue
-name_value s x = named s.frame.values x
+name_value s x = named s.own.values x
 
 -- ---- static scopes
 
@@ -28,7 +28,7 @@ file_entity o = (o.name, ObjectName o.constant o.base)
 
 -- the declarations in scope: those of the function, and of file scope
 abbrev pub declarations : Program → CState → List (Name × Entity)
-declarations p s = map value_entity s.frame.values ++ (map local_entity s.frame.objects ++ map file_entity p.unit.objects)
+declarations p s = map value_entity s.own.values ++ (map local_entity s.own.objects ++ map file_entity p.unit.objects)
 
 abbrev pub scope_of : Program → CState → Scope
 scope_of p s = declared (declarations p s)

@@ -2,7 +2,8 @@
 use Rattle.std.specs.Prelude.{ℕ, List, [], ◌∷◌}
 use Rattle.iv_script.specs.declared.AreaCells.{AreaCells}
 use Rattle.iv_script.specs.declared.Reason.TheVariants.{NoValue}
-use Rattle.step_semantics.specs.Steps.{Halt, NoMeaning, Part, left}
+use Rattle.step_semantics.specs.Steps.{Halt, NoMeaning, Part}
+use Rattle.step_semantics.specs.Frames.{Frames, push_frame, pop_frame, in_frame}
 use Rattle.c_ast.specs.declared.CBase.{CBase}
 use Rattle.c_ast.specs.declared.Target.{Target}
 use Rattle.c_ast.specs.Syntax.{Name, TranslationUnit}
@@ -35,23 +36,24 @@ pub record LocalObject : Type 0 where
   pub number : ℕ
   pub base : CBase
 
--- The names in scope in a function, each table with the latest first: those that hold a value, which are const names and
--- parameters, and those of objects. The objects of file scope stand in the unit.
+-- The names in scope in a function: those that hold a value, which are const names and parameters, and those of objects. In each table
+-- the latest declaration stands first; behind all are the parameters in their order, of which no two share a name (6.7). That a const
+-- name only holds a value is this project's choice: in C99 it is an object (6.7.3), whose address no unit of the subset takes. The
+-- objects of file scope stand in the unit.
 pub record Frame : Type 0 where
   pub values : List (Name × CValue)
   pub objects : List (Name × LocalObject)
 
--- the frame of the function that runs, and those of the functions that wait for it, the latest first
-pub record CState : Type 0 where
-  pub frame : Frame
-  pub callers : List Frame
+-- the frame of the function that runs, and those of the functions that wait for it
+abbrev pub CState : Type 0
+CState = Frames Frame
 
 abbrev pub no_names : Frame
 no_names = record { values = []; objects = [] }
 
 -- between entry calls
 abbrev pub at_rest : CState
-at_rest = record { frame = no_names; callers = [] }
+at_rest = record { own = no_names; callers = [] }
 
 -- The objects of file scope, in order, as the outside sees them. No unit with such objects has a first state yet.
 abbrev pub seen : Program → CState → List AreaCells
@@ -61,24 +63,16 @@ seen p s = []
 
 -- every name that comes to hold a value by a declaration (6.7)
 abbrev pub declare : Name → CValue → CState → CState
-declare x v s = record s { frame = record s.frame { values = (x, v) ∷ s.frame.values } }
+declare x v s = record s { own = record s.own { values = (x, v) ∷ s.own.values } }
 
 -- a name ends with the block in which it was declared (6.2.1)
 abbrev pub leave : CState → CState → CState
-leave before after = record after { frame = before.frame }
+leave before after = record after { own = before.own }
 
 -- a function is entered with its parameters, and no name of its caller is in scope there
 abbrev pub enter : List (Name × CValue) → CState → CState
-enter params s = record { frame = record { values = params; objects = [] }; callers = s.frame ∷ s.callers }
+enter params s = push_frame (record { values = params; objects = [] }) s
 
--- and its caller goes on
-abbrev pub back_to : List Frame → CState → CState
-back_to [] s = record s { frame = no_names; callers = [] }
-back_to (f ∷ fs) s = record s { frame = f; callers = fs }
-
-abbrev pub return_from : CState → CState
-return_from s = back_to s.callers s
-
--- a part in a frame of its own
+-- a part in a frame of its own, with its parameters
 abbrev pub in_own_frame : {A : Type 0} → List (Name × CValue) → Part CState A → Part CState A
-in_own_frame params part n w s = left (λ before after. return_from after) s (part n w (enter params s))
+in_own_frame params part = in_frame (enter params) pop_frame part

@@ -1,27 +1,32 @@
 -- The meaning of statements (C99 6.8). Each takes its step after its operands and before it acts; a block takes none.
-use Rattle.std.specs.Prelude.{Option, Some, None, if◌then◌else◌}
+use Rattle.std.specs.Prelude.{Bool, Option, Some, None, if◌then◌else◌}
 use Rattle.iv_script.specs.declared.Reason.TheVariants.{NoValue}
 use Rattle.step_semantics.specs.Steps.{Part, give, bind, tick, by_state, change, block}
 use Rattle.step_semantics.specs.Control.{Control, Falls, Broke, Returned, also, forever}
 use Rattle.c_ast.specs.declared.CType.{CType}
 use Rattle.c_ast.specs.Syntax.{Name, Expr, FunctionCall, Stmt, Const, ConstCall, Object, Assign, If, IfElse, Forever, Break, Return, Block, Call, Stmts, Nil, Cons}
-use Rattle.c_meaning.specs.Values.{Undefined, Stuck, CValue, is_true, as_assigned}
+use Rattle.c_meaning.specs.Values.{Undefined, Stuck, CValue, is_true, on_ok, as_assigned}
 use Rattle.c_meaning.specs.State.{Program, CState, declare, leave}
 use Rattle.c_meaning.specs.Expressions.{eval, eval_all}
-use Rattle.c_meaning.specs.Calls.{troubled, given, Calls, call}
+use Rattle.c_meaning.specs.Calls.{troubled, given, CallResult, Nothing, Missing, Gave, Calls, call}
 
 -- the value of an expression, and the step of the statement that it stands in
 abbrev pub with_value : {A : Type 0} → Program → Expr → (CValue → Part CState A) → Part CState A
 with_value p e next = by_state (λ s. given p (eval p e s) (λ v. tick (next v)))
 
+-- whether it is true, and that step
+abbrev pub with_truth : {A : Type 0} → Program → Expr → (Bool → Part CState A) → Part CState A
+with_truth p e next = by_state (λ s. given p (on_ok (eval p e s) is_true) (λ holds. tick (next holds)))
+
 -- a call: its arguments, the call's step, and then what is called (6.5.2.2)
-abbrev pub call_step : Program → Calls → FunctionCall → Part CState (Option CValue)
+abbrev pub call_step : Program → Calls → FunctionCall → Part CState CallResult
 call_step p functions c = by_state (λ s. given p (eval_all p c.args s) (λ values. tick (call p functions c.name values)))
 
--- the value of a call that is used: a function that reached its `}` has none (6.9.1)
-abbrev pub used : {A : Type 0} → Program → Option CValue → (CValue → Part CState A) → Part CState A
-used p None next = troubled p (Undefined NoValue)
-used p (Some v) next = next v
+-- the value of a call that is used: a function that reached its `}` has none (6.9.1), and no rule of types lets a `void` one be used
+abbrev pub used : {A : Type 0} → Program → CallResult → (CValue → Part CState A) → Part CState A
+used p Nothing next = troubled p Stuck
+used p Missing next = troubled p (Undefined NoValue)
+used p (Gave v) next = next v
 
 -- the declaration of a const name: its value is converted as by assignment (6.7.8)
 abbrev pub declaration : Program → Name → CType → CValue → Part CState (Control (Option CValue))
@@ -35,8 +40,8 @@ abbrev mutual
   exec p functions (ConstCall x t c) = bind (call_step p functions c) (λ result. tick (used p result (declaration p x t)))
   exec p functions (Object x b i) = troubled p Stuck
   exec p functions (Assign place e) = troubled p Stuck
-  exec p functions (If e a) = with_value p e (λ v. if is_true v then block leave (exec_all p functions a) else give Falls)
-  exec p functions (IfElse e a b) = with_value p e (λ v. if is_true v then block leave (exec_all p functions a) else block leave (exec_all p functions b))
+  exec p functions (If e a) = with_truth p e (λ holds. if holds then block leave (exec_all p functions a) else give Falls)
+  exec p functions (IfElse e a b) = with_truth p e (λ holds. if holds then block leave (exec_all p functions a) else block leave (exec_all p functions b))
   exec p functions (Forever body) = forever (block leave (exec_all p functions body))
   exec p functions Break = tick (give Broke)
   exec p functions (Return None) = tick (give (Returned None))

@@ -25,7 +25,7 @@ nothing = program_of (record { structs = []; externs = []; objects = []; functio
 -- x holds 200 as uint8_t, and so does y in the block around, where x holds 7
 abbrev pub inside : CState
 inside = record {
-  frame = record { values = (codes "iv_x", exact U8 (pos 200)) ∷ (codes "iv_y", exact U8 (pos 200)) ∷ (codes "iv_x", exact U8 (pos 7)) ∷ []; objects = [] };
+  own = record { values = (codes "iv_x", exact U8 (pos 200)) ∷ (codes "iv_y", exact U8 (pos 200)) ∷ (codes "iv_x", exact U8 (pos 7)) ∷ []; objects = [] };
   callers = [];
 }
 

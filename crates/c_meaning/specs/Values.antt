@@ -1,5 +1,5 @@
 -- Values with their types: how they are converted (C99 6.3.1), and the values of constants (6.4.4.1); and why there may be none.
-use Rattle.std.specs.Prelude.{ℕ, ℤ, pos, Bool, true, not, List, [], ◌∷◌, Option, Some, None, Result, Ok, Err}
+use Rattle.std.specs.Prelude.{ℕ, ℤ, pos, Bool, not, List, [], ◌∷◌, Option, Some, None, Result, Ok, Err}
 use Rattle.std.specs.Ordering.{int_eq}
 use Rattle.iv_script.specs.declared.Reason.{Reason}
 use Rattle.iv_script.specs.declared.Reason.TheVariants.{Implementation}
@@ -16,7 +16,7 @@ use Rattle.c_ast.specs.Conversions.{convert_in, constant_type}
 use Rattle.c_ast.specs.StaticTypes.{ValueType, Arithmetic, PointerTo}
 
 -- Why something has no meaning: C99 gives it none, for a reason; or it is stuck, since no rule of this meaning speaks of it. Stuck are
--- the forms that are not given a meaning yet, and what no unit comes to that keeps the rules of names and types.
+-- the forms that are not given a meaning yet, and what no unit comes to whose expressions and calls are typed.
 pub data Trouble : Type 0 where
   Undefined : Reason → Trouble
   Stuck : Trouble
@@ -37,10 +37,10 @@ abbrev pub held_type : CValue → ValueType
 held_type (Num kind v) = Arithmetic kind
 held_type (Ptr constant base to) = PointerTo constant base
 
--- a number other than 0, or a pointer, since each points to an object (6.3.2.3)
-abbrev pub is_true : CValue → Bool
-is_true (Num kind v) = not (int_eq v (pos 0))
-is_true (Ptr constant base to) = true
+-- whether a number is other than 0, as `if`, `?:`, `!`, `&&` and `||` ask (6.8.4.1); of pointers no form asks it yet
+abbrev pub is_true : CValue → Result Bool Trouble
+is_true (Num kind v) = Ok (not (int_eq v (pos 0)))
+is_true (Ptr constant base to) = Err Stuck
 
 -- what follows from a value, where there is one
 abbrev pub on_ok : {A B E : Type 0} → Result A E → (A → Result B E) → Result B E

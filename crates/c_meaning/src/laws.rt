@@ -9,7 +9,7 @@ pub fn run_laws()
     ensures { RunLaws }
 {}
 
-/// A unit of the forms that have a meaning is never stuck, where it keeps the rules of names and types.
+/// A unit of the forms that have a meaning is never stuck, where its expressions and calls are typed.
 pub fn stuck_laws()
     ensures { MeantUnitsAreNeverStuck }
 {}

@@ -6,22 +6,22 @@ use Rattle.c_ast.specs.declared.CBinary.{CBinary}
 use Rattle.c_ast.specs.declared.CBinary.TheVariants.{AndAlso, OrElse}
 use Rattle.c_ast.specs.Syntax.{Expr, Binary}
 use Rattle.c_ast.specs.Targets.{table_of}
-use Rattle.c_meaning.specs.Values.{Trouble, CValue, is_true, on_ok}
-use Rattle.c_meaning.specs.Operators.{truth, binary}
+use Rattle.c_meaning.specs.Values.{Trouble, CValue, on_ok}
+use Rattle.c_meaning.specs.Operators.{truth, tested, binary}
 use Rattle.c_meaning.specs.State.{Program, CState}
 use Rattle.c_meaning.specs.Expressions.{eval}
 use Rattle.overflow_checks.proofs.Rows.{Tests}
 
-is_true_of_truth : (b : Bool) → is_true (truth b) ≡ b
-is_true_of_truth true = refl
-is_true_of_truth false = refl
+truth_of_truth : (b : Bool) → tested (truth b) ≡ Ok (truth b)
+truth_of_truth true = refl
+truth_of_truth false = refl
 
 module _ (p : Program) (s : CState) (a b : Expr) where
   left : (op : CBinary) (x : Bool) → Tests p s a x → eval p (Binary op a b) s ≡ binary (table_of p.target) op (truth x) (eval p b s)
   left op x h = ap (λ r. let q : Result CValue Trouble = on_ok r (λ v. binary (table_of p.target) op v (eval p b s)) in q) h
 
-  right : (y : Bool) → Tests p s b y → on_ok (eval p b s) (λ v. let q : Result CValue Trouble = Ok (truth (is_true v)) in q) ≡ Ok (truth y)
-  right y h = ap (λ r. let q : Result CValue Trouble = on_ok r (λ v. Ok (truth (is_true v))) in q) h ∙ ap (λ z. Ok (truth z)) (is_true_of_truth y)
+  right : (y : Bool) → Tests p s b y → on_ok (eval p b s) tested ≡ Ok (truth y)
+  right y h = ap (λ r. on_ok r tested) h ∙ truth_of_truth y
 
   pub or_else_tests : (x y : Bool) → Tests p s a x → (x ≡ false → Tests p s b y) → Tests p s (Binary OrElse a b) (x || y)
   or_else_tests true y h k = left OrElse true h

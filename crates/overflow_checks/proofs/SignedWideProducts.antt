@@ -126,7 +126,7 @@ module _ (p : Program) (s : CState) (table : CTable (table_of p.target)) (kind :
     below_all : unsigned_abs x < 2 ^ width kind
     below_all = distance_below w x (some_bits kind) is_in
 
-    arms : (test : Bool) → int_lt x (pos 0) ≡ test → as_common t (Some (Arithmetic (Computed c))) (if is_true (truth test) then eval p opposite s else eval p as_unsigned s) ≡ Ok (Num (Computed c) (pos distance))
+    arms : (test : Bool) → int_lt x (pos 0) ≡ test → on_ok (is_true (truth test)) (λ holds. as_common t (Some (Arithmetic (Computed c))) (if holds then eval p opposite s else eval p as_unsigned s)) ≡ Ok (Num (Computed c) (pos distance))
     arms true e =
         arm_is p s table w c same (some_bits kind) (width_most kind) (eval p opposite s) (Computed c) _ distance below_all (opposite_distance w x (some_bits kind) is_in e)
         (opposite_gives p s table w c same (some_bits kind) (width_most kind) as_unsigned x (cast_modulo p s kind table wide a x given))
@@ -136,8 +136,8 @@ module _ (p : Program) (s : CState) (table : CTable (table_of p.target)) (kind :
 
     magnitude_gives : Natural (magnitude w a) distance
     magnitude_gives =
-        ap (λ r. let q : Result CValue Trouble = on_ok r (λ v. as_common t (type_of (magnitude w a)) (if is_true v then eval p opposite s else eval p as_unsigned s)) in q) (sign_tests a x given)
-        ∙ ap (λ k. as_common t k (if is_true (truth (int_lt x (pos 0))) then eval p opposite s else eval p as_unsigned s)) magnitude_typed
+        ap (λ r. let q : Result CValue Trouble = on_ok (on_ok r is_true) (λ holds. as_common t (type_of (magnitude w a)) (if holds then eval p opposite s else eval p as_unsigned s)) in q) (sign_tests a x given)
+        ∙ ap (λ k. let q : Result CValue Trouble = on_ok (is_true (truth (int_lt x (pos 0)))) (λ holds. as_common t k (if holds then eval p opposite s else eval p as_unsigned s)) in q) magnitude_typed
         ∙ arms (int_lt x (pos 0)) refl
 
   -- ---- products

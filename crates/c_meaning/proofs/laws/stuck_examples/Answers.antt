@@ -34,7 +34,13 @@ returns-clause-meant c =
             params = All-nil (λ y. IsScalar y.ty);
             result = tt;
             body = (
-              (tt, record { called = record { params = byte ∷ []; result = byte }; found = refl; args = (tt, record { form = tt; kind = Computed Int; typed = refl }, tt) }),
+              (
+                tt,
+                record {
+                  of_function = record { called = record { params = byte ∷ []; result = byte }; found = refl; args = (tt, record { form = tt; kind = Computed Int; typed = refl }, tt) };
+                  has_value = tt;
+                },
+              ),
               (record { called = record { params = byte ∷ []; result = Void }; found = refl; args = (tt, record { form = tt; kind = Scalar (Exact U8); typed = refl }, tt) }, tt),
             );
           },

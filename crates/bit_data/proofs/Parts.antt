@@ -79,7 +79,7 @@ put_has : (low bits n x : ℕ) → x < 2 ^ bits → HasPart low bits (pos n) (po
 put_has low bits n x l = record {
   inside = ap pos (put_inside low bits n x l);
   below = λ from some le. ap pos (put_below low bits n x from some le);
-  above = λ from some le. ap (λ z. pos (z % 2 ^ some)) (put_above low bits n x from l le)
+  above = λ from some le. ap (λ z. pos (z % 2 ^ some)) (put_above low bits n x from l le);
 }
 
 pub with_has : (width low bits : ℕ) (v x : ℤ) → IsTrue (in_range_of width false v) → IsTrue (in_range_of bits false x) → HasPart low bits v x (with_part low bits v x)

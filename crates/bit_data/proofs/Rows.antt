@@ -1,5 +1,5 @@
 -- Rows of fields: where each stands, and what a row without a fault has.
-use Rattle.std.proofs.Common.{◌≡◌, ℕ, zero, suc, ◌+◌, ◌<◌, ◌≤◌, List, [], ◌∷◌, ◌++◌, length, get_or, take, drop, Bool, true, false, Option, Some, None, IsTrue, refl, sym, ap, ◌∙◌, arith}
+use Rattle.std.proofs.Common.{◌≡◌, ℕ, zero, suc, ◌+◌, ◌<◌, ◌≤◌, List, [], ◌∷◌, ◌++◌, length, map, get_or, take, drop, Bool, true, false, Option, Some, None, IsTrue, refl, sym, ap, ◌∙◌, arith}
 use Rattle.std.specs.Prelude.{nat_eq, if◌then◌else◌}
 use Rattle.std.specs.List.{sum_by}
 use Rattle.std.proofs.lemmas.List.{take_more, at_drop_more, take-take}
@@ -9,7 +9,7 @@ use Rattle.bit_data.specs.declared.layout.FieldWish.{FieldWish}
 use Rattle.bit_data.specs.declared.layout.FieldBits.{FieldBits}
 use Rattle.bit_data.specs.declared.fault.LayoutFault.{LayoutFault}
 use Rattle.bit_data.specs.declared.fault.LayoutFault.TheVariants.{TwiceNamed, EmptyField}
-use Rattle.bit_data.specs.Layouts.{bits_of, is_name_of, first_fault, placed_at, placed_from}
+use Rattle.bit_data.specs.Layouts.{bits_of, is_name_of, first_fault, placed_at, placed_from, wish_of}
 
 abbrev pub no_wish : FieldWish
 no_wish = record { name = []; width = 0; truth = false }
@@ -35,6 +35,10 @@ placed_bits low (w ∷ ws) zero = refl
 placed_bits low (w ∷ ws) (suc i) =
     sum_by-cons (λ (f : FieldBits). f.width) (placed_at low w) (take i (placed_from (low + w.width) ws))
     ∙ ap (λ n. w.width + n) (placed_bits (low + w.width) ws i) ∙ sym (sum_by-cons (λ (x : FieldWish). x.width) w (take i ws))
+
+pub placed_wishes : (low : ℕ) (ws : List FieldWish) → map wish_of (placed_from low ws) ≡ ws
+placed_wishes low [] = refl
+placed_wishes low (w ∷ ws) = ap (λ more. w ∷ more) (placed_wishes (low + w.width) ws)
 
 pub bits_more : (ws : List FieldWish) (i : ℕ) → i < length ws → bits_of (take (i + 1) ws) ≡ bits_of (take i ws) + (get_or ws i no_wish).width
 bits_more ws i l = sum_by_more (λ (x : FieldWish). x.width) ws i no_wish l
@@ -69,7 +73,7 @@ has_bits before (w ∷ ws) e i l = go (is_name_of before w.name) (nat_eq w.width
 pub next_fault : (ws : List FieldWish) (i : ℕ) (w : FieldWish) → i < length ws → w ≡ get_or ws i w
     → first_fault (take i ws) (drop i ws)
     ≡ (if is_name_of (take i ws) w.name then Some (TwiceNamed (length (take i ws)))
-      else (if nat_eq w.width 0 then Some (EmptyField (length (take i ws))) else first_fault (take (i + 1) ws) (drop (i + 1) ws)))
+    else (if nat_eq w.width 0 then Some (EmptyField (length (take i ws))) else first_fault (take (i + 1) ws) (drop (i + 1) ws)))
 next_fault ws i w l e =
     let more : take i ws ++ w ∷ [] ≡ take (i + 1) ws = ap (λ x. take i ws ++ x ∷ []) e ∙ sym (take_more ws i w l) in
     at_drop_more (first_fault (take i ws)) ws i w l

@@ -13,14 +13,14 @@ use Rattle.iv_words.proofs.Ranges.{wider}
 use Rattle.bit_data.specs.declared.layout.FieldBits.{FieldBits}
 use Rattle.bit_data.specs.declared.layout.BitLayout.{BitLayout}
 use Rattle.bit_data.specs.declared.fault.TooWide.{TooWide}
-use Rattle.bit_data.specs.Layouts.{IsLayout}
+use Rattle.bit_data.specs.Layouts.{wishes_of, IsLayout}
 use Rattle.bit_data.specs.Fields.{part, with_part, field_at, field_of, changed, HasPart}
 use Rattle.bit_data.specs.Laws.{IsInWord, IsChanged, FieldsStandInARow, FieldsAreInTheWord, FieldsHoldNumbers, ChangedFieldsHold, OtherFieldsStay, ChangedWordsFit}
 use Rattle.bit_data.proofs.Parts.{with_has, with_fits}
 use Rattle.bit_data.proofs.Placed.{stands, in_a_row, in_word, before_later}
 
 pub word_range : (l : BitLayout) → IsLayout l → (v : ℤ) → IsTrue (in_range l.word v) → IsTrue (in_range_of (width l.word) false v)
-word_range l h v k = range_of_sign l.word false (stands l h.wishes h.laid).filled.unsigned v k
+word_range l h v k = range_of_sign l.word false (stands l (wishes_of l) h.laid).filled.unsigned v k
 
 -- the field that the code reads
 pub read_is : (l : BitLayout) (fields : List FieldBits) (i : ℕ) (f : FieldBits) → fields ≡ l.fields → i < length l.fields → f ≡ get_or fields i f → f ≡ field_at l i
@@ -50,7 +50,7 @@ change_has l h i k v x held number = with_has (width l.word) (field_at l i).low 
 pub change_fits : (l : BitLayout) → IsLayout l → (i : ℕ) → i < length l.fields → (v x : ℤ) → IsTrue (in_range l.word v) → IsTrue (in_range_of (field_at l i).width false x)
     → IsTrue (in_range l.word (with_part (field_at l i).low (field_at l i).width v x))
 change_fits l h i k v x held number =
-    in_range_by_sign l.word false (stands l h.wishes h.laid).filled.unsigned (with_part (field_at l i).low (field_at l i).width v x)
+    in_range_by_sign l.word false (stands l (wishes_of l) h.laid).filled.unsigned (with_part (field_at l i).low (field_at l i).width v x)
     (with_fits (width l.word) (field_at l i).low (field_at l i).width v x (in_word l h i k).inside (word_range l h v held) number)
 
 -- what a change answers, where it answers a word

@@ -1,5 +1,5 @@
 -- Layouts of bit data: the fields stand one behind the other in an unsigned word and fill it, the first in its lowest bits.
-use Rattle.std.specs.Prelude.{◌≡◌, ℕ, ◌+◌, List, [], ◌∷◌, ◌++◌, length, nat_eq, Bool, ◌&&◌, ◌||◌, not, if◌then◌else◌, IsTrue, Option, Some, None, Result, Ok, Err}
+use Rattle.std.specs.Prelude.{◌≡◌, ℕ, ◌+◌, List, [], ◌∷◌, ◌++◌, length, map, nat_eq, Bool, ◌&&◌, ◌||◌, not, if◌then◌else◌, IsTrue, Option, Some, None, Result, Ok, Err}
 use Rattle.std.specs.List.{sum_by, list_any, list_all}
 use Rattle.iv_words.specs.Kinds.{width, is_signed}
 use Rattle.iv_words.specs.Words.{same_word}
@@ -57,8 +57,14 @@ faultless None word wishes = Ok (record { name = []; word = word; fields = place
 abbrev pub laid_out : IntKind → List FieldWish → Result BitLayout LayoutFault
 laid_out word wishes = if is_filled word wishes then faultless (first_fault [] wishes) word wishes else Err WidthSum
 
--- a layout of its word for some fields, whatever its name is
+-- what a field of a layout stands for
+abbrev pub wish_of : FieldBits → FieldWish
+wish_of f = record { name = f.name; width = f.width; truth = f.truth }
+
+abbrev pub wishes_of : BitLayout → List FieldWish
+wishes_of layout = map wish_of layout.fields
+
+-- a layout, whatever its name is: what its fields stand for is laid out as they are
 pub record IsLayout (layout : BitLayout) : Type 0 where
-  pub wishes : List FieldWish
-  pub truths : IsTrue (list_all has_its_bit wishes)
-  pub laid : laid_out layout.word wishes ≡ Ok (record layout { name = [] })
+  pub truths : IsTrue (list_all has_its_bit (wishes_of layout))
+  pub laid : laid_out layout.word (wishes_of layout) ≡ Ok (record layout { name = [] })

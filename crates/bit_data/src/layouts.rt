@@ -113,12 +113,13 @@ pub fn check_layout(
     if !is_filled(word, fields.as_slice()) {
         return Err(LayoutFault::WidthSum);
     }
-    match first_fault(fields.as_slice()) {
-        Some(fault) => Err(fault),
-        None => Ok(BitLayout {
-            name: Word::new(alloc),
-            word,
-            fields: placed(alloc, fields.as_slice())?,
-        }),
+    if let Some(fault) = first_fault(fields.as_slice()) {
+        return Err(fault);
     }
+    let placed = placed(alloc, fields.as_slice())?;
+    Ok(BitLayout {
+        name: Word::new(alloc),
+        word,
+        fields: placed,
+    })
 }

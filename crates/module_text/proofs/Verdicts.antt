@@ -75,7 +75,7 @@ piece_without_memory at front piece.OpenComment why e m = cc
 piece_without_memory at front piece.Name why e m = name_without_memory at (kind_of_name (look_up keywords front) front) (nat_lt longest_name (length front)) (e ∙ ap Err m)
 piece_without_memory at front (piece.Number (Some value)) why e m = cc
 piece_without_memory at front (piece.Number None) why e m = cc
-piece_without_memory at front (piece.Symbol mark) why e m = cc
+piece_without_memory at front (piece.Mark mark) why e m = cc
 
 -- want of memory is no fault of a text
 fault_without_memory : {at : ℕ} {text : List ℕ} {why : LexFault} → LexFaultOf at text why → why ≡ lexical.Memory → ⊥

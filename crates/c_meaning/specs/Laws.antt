@@ -1,5 +1,5 @@
 -- What holds of every run of C, and when a run is never stuck.
-use Rattle.std.specs.Prelude.{◌≢◌, ℕ, ◌^◌}
+use Rattle.std.specs.Prelude.{◌≡◌, ◌≢◌, ℕ, ◌^◌}
 use Rattle.iv_script.specs.declared.End.TheVariants.{Stopped}
 use Rattle.iv_script.specs.declared.Script.{Script}
 use Rattle.iv_script.specs.Scripts.{Fits}
@@ -25,6 +25,12 @@ no_site = 2 ^ 32
 -- the unit, where a run that is stuck is shown as a stop at that site: so it is told apart from all others
 abbrev pub watched : TranslationUnit → Target → Program
 watched u t = record { target = t; unit = u; stuck = FailedCheck no_site }
+
+-- such a run is a run of the unit wherever it is not stuck
+abbrev pub WatchedRunsAreRuns : Type 0
+WatchedRunsAreRuns =
+    (u : TranslationUnit) (t : Target) (script : Script) (n : ℕ) → (run_program (watched u t) script n).end ≢ Stopped no_site
+    → run_c u t script n ≡ run_program (watched u t) script n
 
 abbrev pub IsNotStuck : Halt → Type 0
 IsNotStuck how = how ≢ FailedCheck no_site

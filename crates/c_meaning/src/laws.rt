@@ -1,4 +1,4 @@
-ghost use Rattle.c_meaning.specs.Laws.{RunLaws, MeantUnitsAreNeverStuck};
+ghost use Rattle.c_meaning.specs.Laws.{RunLaws, WatchedRunsAreRuns, MeantUnitsAreNeverStuck};
 ghost use Rattle.c_meaning.specs.ExpressionLaws.{ValuesHaveTheirTypes, TypedNumbersAreNotStuck};
 ghost use Rattle.c_meaning.specs.NumberExamples.{SumExamples, ProductExamples, QuotientExamples, BitExamples, LeftShiftExamples, RightShiftExamples, ComparisonExamples, UnaryExamples, PointerExamples};
 ghost use Rattle.c_meaning.specs.ValueExamples.{NameExamples, OrderExamples, CastExamples, ConditionExamples};
@@ -10,8 +10,10 @@ pub fn run_laws()
 {}
 
 /// A unit of the forms that have a meaning is never stuck, where its expressions and calls are typed.
+/// A run that is watched, so that being stuck is seen, is a run of the unit wherever it is not stuck.
 pub fn stuck_laws()
-    ensures { MeantUnitsAreNeverStuck }
+    ensures never { MeantUnitsAreNeverStuck }
+    ensures watched { WatchedRunsAreRuns }
 {}
 
 /// Which runs are stuck, and a unit that never is.

@@ -1,4 +1,4 @@
-ghost use Rattle.c_meaning.specs.Laws.{RunLaws, WatchedRunsAreRuns, MeantUnitsAreNeverStuck};
+ghost use Rattle.c_meaning.specs.Laws.{RunLaws, NamesAreAsDeclared, WatchedRunsAreRuns, MeantUnitsAreNeverStuck};
 ghost use Rattle.c_meaning.specs.ExpressionLaws.{ValuesHaveTheirTypes, TypedNumbersAreNotStuck};
 ghost use Rattle.c_meaning.specs.NumberExamples.{SumExamples, ProductExamples, QuotientExamples, BitExamples, LeftShiftExamples, RightShiftExamples, ComparisonExamples, UnaryExamples, PointerExamples};
 ghost use Rattle.c_meaning.specs.ValueExamples.{NameExamples, OrderExamples, CastExamples, ConditionExamples};
@@ -22,10 +22,11 @@ pub fn stuck_examples()
     ensures meant { MeantExample }
 {}
 
-/// The value of an expression is one of the type of the expression, and a typed expression of numbers is not stuck.
+/// The value of an expression is one of the type of the expression, and a typed expression of numbers is not stuck; names are as declared.
 pub fn type_laws()
     ensures types { ValuesHaveTheirTypes }
     ensures not_stuck { TypedNumbersAreNotStuck }
+    ensures declared { NamesAreAsDeclared }
 {}
 
 /// What an entry call comes to, and for how many steps.

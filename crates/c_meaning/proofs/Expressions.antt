@@ -4,7 +4,7 @@ use Rattle.std.proofs.Common.{◌≡◌, ℕ, ℤ, pos, Bool, true, false, not, 
 use Rattle.std.specs.Prelude.{⊤, All, map, ◌++◌, if◌then◌else◌}
 use Rattle.std.specs.Option.{option_map, option_and_then}
 use Rattle.std.specs.Ordering.{int_eq}
-use Rattle.std.proofs.lemmas.List.Elements.{All-head, All-tail}
+use Rattle.std.proofs.lemmas.List.Elements.{All-head, All-tail, All-nil, All-cons}
 use Rattle.iv_words.specs.Words.{same_word}
 use Rattle.iv_words.specs.Kinds.{width, is_signed}
 use Rattle.c_ast.specs.declared.Target.{Target}
@@ -16,18 +16,18 @@ use Rattle.c_ast.specs.declared.CKind.{CKind}
 use Rattle.c_ast.specs.declared.CKind.TheVariants.{Scalar, Arith as Computed}
 use Rattle.c_ast.specs.declared.CStruct.{CStruct}
 use Rattle.c_ast.specs.declared.CType.TheVariants.{Void, Value, Pointer}
-use Rattle.c_ast.specs.Syntax.{Name, Expr, Number, Read, Address, Unary, Binary, Cast, Cond, Var, At, Member, Element}
-use Rattle.c_ast.specs.StaticTypes.{ValueType, Arithmetic, PointerTo, Entity, ConstName, declared, of_unary, of_binary, of_choice, of_cast, of_entity, of_read, of_both}
+use Rattle.c_ast.specs.Syntax.{Name, FileObject, Expr, Number, Read, Address, Unary, Binary, Cast, Cond, Var, At, Member, Element}
+use Rattle.c_ast.specs.StaticTypes.{ValueType, Arithmetic, PointerTo, Entity, declared, of_unary, of_binary, of_choice, of_cast, of_entity, of_read, of_both}
 use Rattle.c_ast.specs.Targets.{TargetTable, table_of, arith_bits, arith_signed, common_type}
 use Rattle.c_ast.specs.Conversions.{convert_in, can_hold, candidates, first_of_types, constant_type_in}
 use Rattle.c_ast.proofs.Conversions.{converted_held}
 use Rattle.c_ast.proofs.Promotions.{targets_are_sound}
 use Rattle.c_meaning.specs.Values.{Trouble, Undefined, Stuck, CValue, Num, Ptr, held_type, is_true, on_ok, typed, as_kind, as_assigned, of_type}
 use Rattle.c_meaning.specs.Operators.{unary, binary}
-use Rattle.c_meaning.specs.State.{Program, CState}
-use Rattle.c_meaning.specs.Scopes.{named, value_entity, local_entity, file_entity}
+use Rattle.c_meaning.specs.State.{Program, Slot, Holding, Naming, CState}
+use Rattle.c_meaning.specs.Scopes.{named, value_in, slot_entity, local_entity, file_entity}
 use Rattle.c_meaning.specs.Expressions.{static_type, held, as_common, eval}
-use Rattle.c_meaning.specs.ExpressionLaws.{IsTyped, NamesAreTyped, HasItsType, ValuesHaveTheirTypes, IsOfNumbers, HasNoObjects, TypedNumbersAreNotStuck}
+use Rattle.c_meaning.specs.ExpressionLaws.{SlotIsTyped, NamesAreTyped, HasItsType, ValuesHaveTheirTypes, IsOfNumbers, HoldsValue, HasNoObjects, TypedNumbersAreNotStuck}
 use Rattle.c_meaning.proofs.Operands.{Fine, Comes, some_is, fine_comes, on_ok_comes, unary_comes, binary_comes}
 
 -- ---- conversions
@@ -76,15 +76,17 @@ module _ (t : TargetTable) (excuse : Type 0) (structs : List CStruct) (rest : Li
   no_value x None e = λ type is. cc
   no_value x (Some entity) e = λ type is. others x entity e
 
-  name_by : (v : CValue) (found : Option CValue) (entity : Option Entity) → IsTyped t v → Comes t excuse (name_type structs entity) (held found) → (test : Bool)
-      → Comes t excuse (name_type structs (if test then Some (ConstName (held_type v)) else entity)) (held (if test then Some v else found))
-  name_by v found entity h k true = record { typed = h; agrees = λ type is. some_is is }
-  name_by v found entity h k false = k
+  name_by : (slot : Slot) (found : Option Slot) (entity : Option Entity) → SlotIsTyped t slot → HoldsValue excuse slot → Comes t excuse (name_type structs entity) (held (value_in found)) → (test : Bool)
+      → Comes t excuse (name_type structs (if test then Some (slot_entity slot) else entity)) (held (value_in (if test then Some slot else found)))
+  name_by (Holding v) found entity h g k true = record { typed = h; agrees = λ type is. some_is is }
+  name_by (Naming object base) found entity h g k true = λ type is. g
+  name_by slot found entity h g k false = k
 
-  name_comes : (names : List (Name × CValue)) → All (λ n. IsTyped t n.1) names → (x : Name) → Comes t excuse (name_type structs (declared (map value_entity names ++ rest) x)) (held (named names x))
-  name_comes [] h x = no_value x (declared rest x) refl
-  name_comes (n ∷ names) h x =
-      name_by n.1 (named names x) (declared (map value_entity names ++ rest) x) (All-head (λ m. IsTyped t m.1) n names h) (name_comes names (All-tail (λ m. IsTyped t m.1) n names h) x) (same_word n.0 x)
+  name_comes : (names : List (Name × Slot)) → All (λ n. SlotIsTyped t n.1) names → All (λ n. HoldsValue excuse n.1) names → (x : Name) → Comes t excuse (name_type structs (declared (map local_entity names ++ rest) x)) (held (value_in (named names x)))
+  name_comes [] h g x = no_value x (declared rest x) refl
+  name_comes (n ∷ names) h g x =
+      name_by n.1 (named names x) (declared (map local_entity names ++ rest) x) (All-head (λ m. SlotIsTyped t m.1) n names h) (All-head (λ m. HoldsValue excuse m.1) n names g)
+      (name_comes names (All-tail (λ m. SlotIsTyped t m.1) n names h) (All-tail (λ m. HoldsValue excuse m.1) n names g) x) (same_word n.0 x)
 
 -- ---- casts and arms
 
@@ -157,8 +159,8 @@ stuck_after t excuse said (Ok v) next f o = subst (Comes t excuse said) (sym (f 
 stuck_after t excuse said (Err (Undefined reason)) next f o = tt
 stuck_after t excuse said (Err Stuck) next f o = λ type is. o
 
-module _ (p : Program) (s : CState) (h : NamesAreTyped (table_of p.target) s) (excuse : Type 0)
-    (others : (x : Name) (e : Entity) → declared (map local_entity s.own.objects ++ map file_entity p.unit.objects) x ≡ Some e → excuse) where
+module _ (p : Program) (s : CState) (h : NamesAreTyped (table_of p.target) s) (excuse : Type 0) (values : All (λ n. HoldsValue excuse n.1) s.own)
+    (others : (x : Name) (e : Entity) → declared (map file_entity p.unit.objects) x ≡ Some e → excuse) where
   abbrev t : TargetTable
   t = table_of p.target
 
@@ -167,7 +169,7 @@ module _ (p : Program) (s : CState) (h : NamesAreTyped (table_of p.target) s) (e
 
   value_comes : (e : Expr) → IsOfNumbers excuse e → Comes t excuse (said e) (eval p e s)
   value_comes (Number v suffix) form = of_type_comes t excuse (constant_type_in t suffix v) v (first_holds t (candidates suffix) (pos v))
-  value_comes (Read (Var x)) form = name_comes t excuse p.unit.structs (map local_entity s.own.objects ++ map file_entity p.unit.objects) others s.own.values h x
+  value_comes (Read (Var x)) form = name_comes t excuse p.unit.structs (map file_entity p.unit.objects) others s.own h values x
   value_comes (Read (At e)) form = λ type is. form
   value_comes (Read (Member place m)) form = λ type is. form
   value_comes (Read (Element place e)) form = λ type is. form
@@ -203,22 +205,27 @@ any_form (Cast (Pointer constant base) e) = tt
 any_form (Cast (Value to) e) = any_form e
 any_form (Cond c a b) = (any_form c, any_form a, any_form b)
 
+any_slot : (slot : Slot) → HoldsValue ⊤ slot
+any_slot (Holding v) = tt
+any_slot (Naming object base) = tt
+
+any_names : (names : List (Name × Slot)) → All (λ n. HoldsValue ⊤ n.1) names
+any_names [] = All-nil (λ n. HoldsValue ⊤ n.1)
+any_names (n ∷ names) = All-cons (λ m. HoldsValue ⊤ m.1) n names (any_slot n.1) (any_names names)
+
 comes_if : (t : TargetTable) (excuse : Type 0) (said : Option ValueType) (r : Result CValue Trouble) → Comes t excuse said r → IfOk r (HasItsType t said)
 comes_if t excuse said (Ok v) h = h
 comes_if t excuse said (Err why) h = tt
 
 pub values_have_their_types : ValuesHaveTheirTypes
-values_have_their_types p e s h = comes_if (table_of p.target) ⊤ (static_type p s e) (eval p e s) (value_comes p s h ⊤ (λ x entity is. tt) e (any_form e))
+values_have_their_types p e s h = comes_if (table_of p.target) ⊤ (static_type p s e) (eval p e s) (value_comes p s h ⊤ (any_names s.own) (λ x entity is. tt) e (any_form e))
 
-none_declared : (p : Program) (s : CState) → HasNoObjects p s → (x : Name) (e : Entity) → declared (map local_entity s.own.objects ++ map file_entity p.unit.objects) x ≡ Some e → ⊥
-none_declared p s none x e is =
-    let found : (let r : Option Entity = None in r) ≡ Some e =
-    subst (λ os. declared (map local_entity [] ++ map file_entity os) x ≡ Some e) none.1 (subst (λ os. declared (map local_entity os ++ map file_entity p.unit.objects) x ≡ Some e) none.0 is) in
-    cc
+none_declared : (objects : List FileObject) → objects ≡ [] → (x : Name) (e : Entity) → declared (map file_entity objects) x ≡ Some e → ⊥
+none_declared objects none x e is = let found : (let r : Option Entity = None in r) ≡ Some e = subst (λ os. declared (map file_entity os) x ≡ Some e) none is in cc
 
 -- an expression of numbers with a type: a value of it, or a reason
 pub typed_comes : (p : Program) (s : CState) → NamesAreTyped (table_of p.target) s → HasNoObjects p s → (e : Expr) → IsOfNumbers ⊥ e → Comes (table_of p.target) ⊥ (static_type p s e) (eval p e s)
-typed_comes p s h none e form = value_comes p s h ⊥ (none_declared p s none) e form
+typed_comes p s h none e form = value_comes p s h ⊥ none.0 (none_declared p.unit.objects none.1) e form
 
 pub typed_numbers_are_not_stuck : TypedNumbersAreNotStuck
 typed_numbers_are_not_stuck p e s type h none form is stuck = subst (Comes (table_of p.target) ⊥ (static_type p s e)) stuck (typed_comes p s h none e form) type is

@@ -6,3 +6,4 @@ pub mod HeldNumbers
 pub mod Expressions
 pub mod Stuck
 pub mod Names
+pub mod Watched

@@ -35,10 +35,10 @@ use Rattle.c_ast.specs.StaticTypes.{ValueType, Arithmetic, ConstName, declared, 
 use Rattle.c_ast.specs.Syntax.{Name, Expr, FunctionCall, Stmt, Const, ConstCall, Object, Assign, If, IfElse, Forever, Break, Return, Block, Call, Stmts, Nil, Cons, FileObject, Function, TranslationUnit}
 use Rattle.c_ast.specs.Targets.{TargetTable, table_of}
 use Rattle.c_meaning.specs.Values.{Trouble, Undefined, Stuck, CValue, Num, Ptr, held_type, is_true, on_ok, as_kind, as_assigned, as_arguments}
-use Rattle.c_meaning.specs.State.{Program, Frame, CState, at_rest, seen, declare, leave, enter, in_own_frame}
-use Rattle.c_meaning.specs.Scopes.{value_entity, local_entity, file_entity, declarations}
+use Rattle.c_meaning.specs.State.{Program, Frame, Holding, CState, at_rest, seen, declare, leave, enter, in_own_frame}
+use Rattle.c_meaning.specs.Scopes.{local_entity, file_entity, declarations}
 use Rattle.c_meaning.specs.Expressions.{static_type, eval, eval_all}
-use Rattle.c_meaning.specs.ExpressionLaws.{IsTyped}
+use Rattle.c_meaning.specs.ExpressionLaws.{IsTyped, SlotIsTyped, HoldsValue}
 use Rattle.c_meaning.specs.Calls.{given, CallResult, Nothing, Missing, Gave, Calls, no_functions, pieces_of, reply_shape, reply_value, outside_with, outside, stop_at, stop_call, extern_call_of, call_found, call}
 use Rattle.c_meaning.specs.Statements.{with_value, with_truth, call_step, used, declaration, exec, exec_all}
 use Rattle.c_meaning.specs.Runs.{function_value, param_types, bound, function_body, function_call, with_function, entry_result, entry_values, entered, entry_among, entry, first_state_of, run_from}
@@ -232,9 +232,9 @@ module _ (u : TranslationUnit) (target : Target) where
   -- ---- states within a function
 
   record Within (scope : Declarations) (callers : List Frame) (s : CState) : Type 0 where
-    typed : All (λ n. IsTyped t n.1) s.own.values
-    names : map value_entity s.own.values ≡ scope
-    objects : s.own.objects ≡ []
+    typed : All (λ n. SlotIsTyped t n.1) s.own
+    names : map local_entity s.own ≡ scope
+    values : All (λ n. HoldsValue ⊥ n.1) s.own
     waiting : s.callers ≡ callers
 
   same_within : (scope : Declarations) (callers : List Frame) (s v : CState) → Within scope callers s → v ≡ s → Within scope callers v
@@ -253,14 +253,11 @@ module _ (u : TranslationUnit) (target : Target) where
   module _ (no_objects : u.objects ≡ []) (externs : All ExternIsMeant u.externs) (earlier : List Function) (functions : Calls) (keep : CallsKeep earlier functions) (result : CType) (callers : List Frame) where
     declared_are : (scope : Declarations) (s : CState) → Within scope callers s → declarations p s ≡ scope
     declared_are scope s inv =
-        ap (λ os. map value_entity s.own.values ++ (map local_entity os ++ map file_entity u.objects)) inv.objects
-        ∙ ap (λ os. map value_entity s.own.values ++ map file_entity os) no_objects
-        ∙ append-nil (map value_entity s.own.values)
-        ∙ inv.names
+        ap (λ os. map local_entity s.own ++ map file_entity os) no_objects ∙ append-nil (map local_entity s.own) ∙ inv.names
 
     number_good : (scope : Declarations) (e : Expr) → IsNumber u target earlier result scope e → (s : CState) → Within scope callers s → Good Typed (eval p e s)
     number_good scope e number s inv =
-        comes_good number.kind (static_type p s e) (eval p e s) (typed_comes p s inv.typed (inv.objects, no_objects) e number.form)
+        comes_good number.kind (static_type p s e) (eval p e s) (typed_comes p s inv.typed (inv.values, no_objects) e number.form)
         (ap (λ ds. expr_type t u.structs (declared ds) e) (declared_are scope s inv) ∙ number.typed)
 
     numbers_good : (scope : Declarations) (ts : List CType) (es : List Expr) → AreGiven u target earlier result scope ts es → (s : CState) → Within scope callers s → Good (AreNumbers ts) (eval_all p es s)
@@ -295,7 +292,7 @@ module _ (u : TranslationUnit) (target : Target) where
     left_after scope in_loop (Returned value) v h = (h.0, h.1.waiting)
 
     restored : (scope : Declarations) (s v : CState) → Within scope callers s → v.callers ≡ callers → Within scope callers (leave s v)
-    restored scope s v inv waiting = record { typed = inv.typed; names = inv.names; objects = inv.objects; waiting = waiting }
+    restored scope s v inv waiting = record { typed = inv.typed; names = inv.names; values = inv.values; waiting = waiting }
 
     ends_left : (scope : Declarations) (in_loop : Bool) (s : CState) → Within scope callers s → (control : Control (Option CValue)) (v : CState) → Ends in_loop control v → Left scope in_loop control (leave s v)
     ends_left scope in_loop s inv Falls v h = restored scope s v inv h
@@ -319,9 +316,9 @@ module _ (u : TranslationUnit) (target : Target) where
 
     named_within : (x : Name) (y : CScalar) (a : CValue) → Holds (Value y) a → (scope : Declarations) (s : CState) → Within scope callers s → Within ((x, ConstName (Arithmetic (Scalar y))) ∷ scope) callers (declare x a s)
     named_within x y a holds scope s inv = record {
-      typed = All-cons (λ n. IsTyped t n.1) (x, a) s.own.values (typed_is a holds.0) inv.typed;
-      names = ap (λ ty. (x, ConstName ty) ∷ map value_entity s.own.values) holds.1 ∙ ap (λ ds. (x, ConstName (Arithmetic (Scalar y))) ∷ ds) inv.names;
-      objects = inv.objects;
+      typed = All-cons (λ n. SlotIsTyped t n.1) (x, Holding a) s.own (typed_is a holds.0) inv.typed;
+      names = ap (λ ty. (x, ConstName ty) ∷ map local_entity s.own) holds.1 ∙ ap (λ ds. (x, ConstName (Arithmetic (Scalar y))) ∷ ds) inv.names;
+      values = All-cons (λ n. HoldsValue ⊥ n.1) (x, Holding a) s.own tt inv.values;
       waiting = inv.waiting;
     }
 
@@ -386,17 +383,22 @@ module _ (u : TranslationUnit) (target : Target) where
 
   -- ---- functions
 
-  bound_typed : (xs : List CParam) (args : List CValue) → AreHeld (param_types xs) args → All (λ n. IsTyped t n.1) (bound xs args)
-  bound_typed [] args h = All-nil (λ n. IsTyped t n.1)
+  bound_typed : (xs : List CParam) (args : List CValue) → AreHeld (param_types xs) args → All (λ n. SlotIsTyped t n.1) (bound xs args)
+  bound_typed [] args h = All-nil (λ n. SlotIsTyped t n.1)
   bound_typed (x ∷ xs) [] h = absurd h
-  bound_typed (x ∷ xs) (a ∷ args) h = All-cons (λ n. IsTyped t n.1) (x.name, a) (bound xs args) (typed_is a (holds_typed x.ty a h.0)) (bound_typed xs args h.1)
+  bound_typed (x ∷ xs) (a ∷ args) h = All-cons (λ n. SlotIsTyped t n.1) (x.name, Holding a) (bound xs args) (typed_is a (holds_typed x.ty a h.0)) (bound_typed xs args h.1)
+
+  bound_values : (xs : List CParam) (args : List CValue) → All (λ n. HoldsValue ⊥ n.1) (bound xs args)
+  bound_values [] args = All-nil (λ n. HoldsValue ⊥ n.1)
+  bound_values (x ∷ xs) [] = All-nil (λ n. HoldsValue ⊥ n.1)
+  bound_values (x ∷ xs) (a ∷ args) = All-cons (λ n. HoldsValue ⊥ n.1) (x.name, Holding a) (bound xs args) tt (bound_values xs args)
 
   bound_named : (x : Name) (ty : CType) (a : CValue) (scope : Declarations) → Holds ty a → (x, ConstName (held_type a)) ∷ scope ≡ and_name x ty scope
   bound_named x (Value s) a scope h = ap (λ of_value. (x, ConstName of_value) ∷ scope) h.1
   bound_named x Void a scope h = absurd h
   bound_named x (Pointer constant base) a scope h = absurd h
 
-  bound_names : (xs : List CParam) (args : List CValue) → AreHeld (param_types xs) args → map value_entity (bound xs args) ≡ of_params xs
+  bound_names : (xs : List CParam) (args : List CValue) → AreHeld (param_types xs) args → map local_entity (bound xs args) ≡ of_params xs
   bound_names [] args h = refl
   bound_names (x ∷ xs) [] h = absurd h
   bound_names (x ∷ xs) (a ∷ args) h = ap (λ ds. (x.name, ConstName (held_type a)) ∷ ds) (bound_names xs args h.1) ∙ bound_named x.name x.ty a (of_params xs) h.0
@@ -436,7 +438,7 @@ module _ (u : TranslationUnit) (target : Target) where
           let inner : CState = enter (bound f.params args) s in
           let body : Part CState (Control (Option CValue)) = block leave (exec_all p functions f.body) in
           let mid : Control (Option CValue) → CState → Type 0 = λ control v. Gone f.result control × (v ≡ s) in
-          let within : Within (of_params f.params) (s.own ∷ s.callers) inner = record { typed = bound_typed f.params args held; names = bound_names f.params args held; objects = refl; waiting = refl } in
+          let within : Within (of_params f.params) (s.own ∷ s.callers) inner = record { typed = bound_typed f.params args held; names = bound_names f.params args held; values = bound_values f.params args; waiting = refl } in
           keeps_after IsNotStuck mid (CallPost f.result s) (in_own_frame (bound f.params args) body n w s) (function_value p f.result)
           (keeps_in_frame IsNotStuck (LeftIn s) mid (enter (bound f.params args)) pop_frame body n w s (gone s)
           (left_keeps no_objects externs earlier functions keep f.result (s.own ∷ s.callers) f.body (of_params f.params) false meant.body n w inner within))

@@ -7,7 +7,7 @@ use Rattle.c_ast.specs.StaticTypes.{ValueType}
 use Rattle.c_ast.specs.Targets.{TargetTable, table_of}
 use Rattle.c_ast.specs.Conversions.{can_hold}
 use Rattle.c_meaning.specs.Values.{Stuck, CValue, Num, Ptr, held_type}
-use Rattle.c_meaning.specs.State.{Program, Frame, CState}
+use Rattle.c_meaning.specs.State.{Program, Slot, Holding, Naming, CState}
 use Rattle.c_meaning.specs.Expressions.{static_type, eval}
 
 -- a value whose number is one of its type
@@ -15,11 +15,12 @@ abbrev pub IsTyped : TargetTable → CValue → Type 0
 IsTyped t (Num kind v) = IsTrue (can_hold t kind v)
 IsTyped t (Ptr constant base to) = ⊤
 
-abbrev pub FrameIsTyped : TargetTable → Frame → Type 0
-FrameIsTyped t f = All (λ n. IsTyped t n.1) f.values
+abbrev pub SlotIsTyped : TargetTable → Slot → Type 0
+SlotIsTyped t (Holding v) = IsTyped t v
+SlotIsTyped t (Naming object base) = ⊤
 
 abbrev pub NamesAreTyped : TargetTable → CState → Type 0
-NamesAreTyped t s = FrameIsTyped t s.own
+NamesAreTyped t s = All (λ n. SlotIsTyped t n.1) s.own
 
 -- its number is one of its type, and its type is that of its expression, where that has one
 pub record HasItsType (t : TargetTable) (of_expression : Option ValueType) (v : CValue) : Type 0 where
@@ -48,8 +49,13 @@ IsOfNumbers others (Cast (Pointer constant base) e) = others
 IsOfNumbers others (Cast Void e) = others
 IsOfNumbers others (Cond c a b) = IsOfNumbers others c × IsOfNumbers others a × IsOfNumbers others b
 
+-- a name that holds a value; of a name of an object this asks for `others`
+abbrev pub HoldsValue : (others : Type 0) → Slot → Type 0
+HoldsValue others (Holding v) = ⊤
+HoldsValue others (Naming object base) = others
+
 abbrev pub HasNoObjects : Program → CState → Type 0
-HasNoObjects p s = (s.own.objects ≡ []) × (p.unit.objects ≡ [])
+HasNoObjects p s = All (λ n. HoldsValue ⊥ n.1) s.own × (p.unit.objects ≡ [])
 
 abbrev pub TypedNumbersAreNotStuck : Type 0
 TypedNumbersAreNotStuck =

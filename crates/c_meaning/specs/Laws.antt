@@ -1,20 +1,30 @@
 -- What holds of every run of C, and when a run is never stuck.
-use Rattle.std.specs.Prelude.{◌≢◌, ℕ, ◌^◌}
+use Rattle.std.specs.Prelude.{◌≡◌, ◌≢◌, ℕ, ◌^◌, List, map, Ok}
 use Rattle.iv_script.specs.declared.End.TheVariants.{Stopped}
 use Rattle.iv_script.specs.declared.Script.{Script}
 use Rattle.iv_script.specs.Scripts.{Fits}
 use Rattle.step_semantics.specs.Steps.{Halt, FailedCheck}
 use Rattle.step_semantics.specs.Outcomes.{OutcomeLaws}
+use Rattle.c_ast.specs.declared.CParam.{CParam}
+use Rattle.c_ast.specs.declared.CType.{CType}
 use Rattle.c_ast.specs.declared.Target.{Target}
 use Rattle.c_ast.specs.Exports.{c_exports}
-use Rattle.c_ast.specs.Syntax.{TranslationUnit}
-use Rattle.c_meaning.specs.State.{Program}
-use Rattle.c_meaning.specs.Meant.{UnitIsMeant}
-use Rattle.c_meaning.specs.Runs.{run_program, run_c}
+use Rattle.c_ast.specs.Syntax.{Name, TranslationUnit}
+use Rattle.c_meaning.specs.Values.{CValue, as_assigned, as_arguments}
+use Rattle.c_meaning.specs.State.{Program, CState, declare}
+use Rattle.c_meaning.specs.Scopes.{local_entity, declarations}
+use Rattle.c_meaning.specs.Meant.{and_name, of_params, UnitIsMeant}
+use Rattle.c_meaning.specs.Runs.{param_types, bound, run_program, run_c}
 
 -- for each number of steps there is one outcome; more steps only add events, and an end is the end
 abbrev pub RunLaws : Type 0
 RunLaws = (u : TranslationUnit) (t : Target) (script : Script) → OutcomeLaws (run_c u t script)
+
+-- A value is converted to the type of a declaration before a name holds it: so each name is in scope as it was declared, and not as its
+-- value happens to be.
+pub record NamesAreAsDeclared : Type 0 where
+  pub constants : (p : Program) (x : Name) (type : CType) (v a : CValue) (s : CState) → as_assigned p.target type v ≡ Ok a → declarations p (declare x a s) ≡ and_name x type (declarations p s)
+  pub parameters : (t : Target) (params : List CParam) (values args : List CValue) → as_arguments t (param_types params) values ≡ Ok args → map local_entity (bound params args) ≡ of_params params
 
 -- ---- being stuck
 
@@ -25,6 +35,12 @@ no_site = 2 ^ 32
 -- the unit, where a run that is stuck is shown as a stop at that site: so it is told apart from all others
 abbrev pub watched : TranslationUnit → Target → Program
 watched u t = record { target = t; unit = u; stuck = FailedCheck no_site }
+
+-- such a run is a run of the unit wherever it is not stuck
+abbrev pub WatchedRunsAreRuns : Type 0
+WatchedRunsAreRuns =
+    (u : TranslationUnit) (t : Target) (script : Script) (n : ℕ) → (run_program (watched u t) script n).end ≢ Stopped no_site
+    → run_c u t script n ≡ run_program (watched u t) script n
 
 abbrev pub IsNotStuck : Halt → Type 0
 IsNotStuck how = how ≢ FailedCheck no_site

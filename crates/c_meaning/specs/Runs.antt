@@ -15,7 +15,7 @@ use Rattle.c_ast.specs.declared.CParam.{CParam}
 use Rattle.c_ast.specs.Syntax.{Name, FileObject, Function, TranslationUnit}
 use Rattle.c_ast.specs.Names.{outer_name}
 use Rattle.c_meaning.specs.Values.{Trouble, Undefined, Stuck, CValue, Num, Ptr, on_ok, as_assigned, as_arguments}
-use Rattle.c_meaning.specs.State.{Program, program_of, end_in, CState, at_rest, seen, leave, in_own_frame}
+use Rattle.c_meaning.specs.State.{Program, program_of, end_in, Frame, Holding, CState, at_rest, seen, leave, in_own_frame}
 use Rattle.c_meaning.specs.Calls.{troubled, given, CallResult, Nothing, Missing, Gave, Calls, no_functions}
 use Rattle.c_meaning.specs.Statements.{exec_all}
 
@@ -37,10 +37,10 @@ abbrev pub param_types : List CParam → List CType
 param_types params = map (λ x. x.ty) params
 
 -- each parameter with the value of its argument
-abbrev pub bound : List CParam → List CValue → List (Name × CValue)
+abbrev pub bound : List CParam → List CValue → Frame
 bound [] vs = []
 bound (x ∷ xs) [] = []
-bound (x ∷ xs) (v ∷ vs) = (x.name, v) ∷ bound xs vs
+bound (x ∷ xs) (v ∷ vs) = (x.name, Holding v) ∷ bound xs vs
 
 -- the body is a block in the frame of the parameters; the value is taken once both have been left
 abbrev pub function_body : Program → Calls → Function → List CValue → Part CState CallResult

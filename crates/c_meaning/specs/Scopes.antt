@@ -4,31 +4,37 @@ use Rattle.iv_words.specs.Words.{same_word}
 use Rattle.c_ast.specs.Syntax.{Name, FileObject}
 use Rattle.c_ast.specs.StaticTypes.{Entity, ConstName, ObjectName, Scope, declared}
 use Rattle.c_meaning.specs.Values.{CValue, held_type}
-use Rattle.c_meaning.specs.State.{Program, CState, LocalObject}
+use Rattle.c_meaning.specs.State.{Program, Slot, Holding, Naming, CState}
 
 -- what the table has for a name: the latest of that name (6.2.1)
 abbrev pub named : {A : Type 0} → List (Name × A) → Name → Option A
 named [] x = None
 named (n ∷ names) x = if same_word n.0 x then Some n.1 else named names x
 
+abbrev pub value_in : Option Slot → Option CValue
+value_in None = None
+value_in (Some (Holding v)) = Some v
+value_in (Some (Naming object base)) = None
+
 -- the value that a name holds in a state
 abbrev pub name_value : CState → Name → Option CValue
-name_value s x = named s.own.values x
+name_value s x = value_in (named s.own x)
 
 -- ---- static scopes
 
-abbrev pub value_entity : Name × CValue → Name × Entity
-value_entity n = (n.0, ConstName (held_type n.1))
+abbrev pub slot_entity : Slot → Entity
+slot_entity (Holding v) = ConstName (held_type v)
+slot_entity (Naming object base) = ObjectName false base
 
-abbrev pub local_entity : Name × LocalObject → Name × Entity
-local_entity n = (n.0, ObjectName false n.1.base)
+abbrev pub local_entity : Name × Slot → Name × Entity
+local_entity n = (n.0, slot_entity n.1)
 
 abbrev pub file_entity : FileObject → Name × Entity
 file_entity o = (o.name, ObjectName o.constant o.base)
 
 -- the declarations in scope: those of the function, and of file scope
 abbrev pub declarations : Program → CState → List (Name × Entity)
-declarations p s = map value_entity s.own.values ++ (map local_entity s.own.objects ++ map file_entity p.unit.objects)
+declarations p s = map local_entity s.own ++ map file_entity p.unit.objects
 
 abbrev pub scope_of : Program → CState → Scope
 scope_of p s = declared (declarations p s)

@@ -31,29 +31,24 @@ end_in p Stuck = p.stuck
 
 -- ---- states
 
--- a name of an object that was declared in a block: which object, and of which type
-pub record LocalObject : Type 0 where
-  pub number : ℕ
-  pub base : CBase
+-- What a name of a function is: one holding a value, as const names and parameters do, or one naming an object of this type. That a
+-- const name only holds a value is this project's choice: in C99 it is an object (6.7.3), whose address no unit of the subset takes.
+pub data Slot : Type 0 where
+  Holding : CValue → Slot
+  Naming : (object : ℕ) → CBase → Slot
 
--- The names in scope in a function: those that hold a value, which are const names and parameters, and those of objects. In each table
--- the latest declaration stands first; behind all are the parameters in their order, of which no two share a name (6.7). That a const
--- name only holds a value is this project's choice: in C99 it is an object (6.7.3), whose address no unit of the subset takes. The
--- objects of file scope stand in the unit.
-pub record Frame : Type 0 where
-  pub values : List (Name × CValue)
-  pub objects : List (Name × LocalObject)
+-- The names in scope in a function, the latest declaration first; behind all are the parameters in their order, of which no two share
+-- a name (6.7). The objects of file scope stand in the unit.
+abbrev pub Frame : Type 0
+Frame = List (Name × Slot)
 
 -- the frame of the function that runs, and those of the functions that wait for it
 abbrev pub CState : Type 0
 CState = Frames Frame
 
-abbrev pub no_names : Frame
-no_names = record { values = []; objects = [] }
-
 -- between entry calls
 abbrev pub at_rest : CState
-at_rest = record { own = no_names; callers = [] }
+at_rest = record { own = []; callers = [] }
 
 -- The objects of file scope, in order, as the outside sees them. No unit with such objects has a first state yet.
 abbrev pub seen : Program → CState → List AreaCells
@@ -63,16 +58,16 @@ seen p s = []
 
 -- every name that comes to hold a value by a declaration (6.7)
 abbrev pub declare : Name → CValue → CState → CState
-declare x v s = record s { own = record s.own { values = (x, v) ∷ s.own.values } }
+declare x v s = record s { own = (x, Holding v) ∷ s.own }
 
 -- a name ends with the block in which it was declared (6.2.1)
 abbrev pub leave : CState → CState → CState
 leave before after = record after { own = before.own }
 
 -- a function is entered with its parameters, and no name of its caller is in scope there
-abbrev pub enter : List (Name × CValue) → CState → CState
-enter params s = push_frame (record { values = params; objects = [] }) s
+abbrev pub enter : Frame → CState → CState
+enter params s = push_frame params s
 
 -- a part in a frame of its own, with its parameters
-abbrev pub in_own_frame : {A : Type 0} → List (Name × CValue) → Part CState A → Part CState A
+abbrev pub in_own_frame : {A : Type 0} → Frame → Part CState A → Part CState A
 in_own_frame params part = in_frame (enter params) pop_frame part

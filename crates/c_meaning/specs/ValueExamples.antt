@@ -13,7 +13,7 @@ use Rattle.c_ast.specs.declared.CBinary.TheVariants.{Add, Div, Shl, AndAlso, OrE
 use Rattle.c_ast.specs.Syntax.{Expr, Number, Read, Unary, Binary, Cast, Cond, Var}
 use Rattle.c_ast.specs.StaticTypes.{Arithmetic}
 use Rattle.c_meaning.specs.Values.{Trouble, Undefined, Stuck, CValue, Num}
-use Rattle.c_meaning.specs.State.{Program, program_of, CState}
+use Rattle.c_meaning.specs.State.{Program, program_of, Holding, CState}
 use Rattle.c_meaning.specs.Expressions.{static_type, eval}
 use Rattle.c_meaning.specs.NumberExamples.{minus, int, unsigned, exact}
 
@@ -25,7 +25,7 @@ nothing = program_of (record { structs = []; externs = []; objects = []; functio
 -- x holds 200 as uint8_t, and so does y in the block around, where x holds 7
 abbrev pub inside : CState
 inside = record {
-  own = record { values = (codes "iv_x", exact U8 (pos 200)) ∷ (codes "iv_y", exact U8 (pos 200)) ∷ (codes "iv_x", exact U8 (pos 7)) ∷ []; objects = [] };
+  own = (codes "iv_x", Holding (exact U8 (pos 200))) ∷ (codes "iv_y", Holding (exact U8 (pos 200))) ∷ (codes "iv_x", Holding (exact U8 (pos 7))) ∷ [];
   callers = [];
 }
 

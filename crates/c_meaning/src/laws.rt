@@ -1,4 +1,4 @@
-ghost use Rattle.c_meaning.specs.Laws.{RunLaws, MeantUnitsAreNeverStuck};
+ghost use Rattle.c_meaning.specs.Laws.{RunLaws, NamesAreAsDeclared, WatchedRunsAreRuns, MeantUnitsAreNeverStuck};
 ghost use Rattle.c_meaning.specs.ExpressionLaws.{ValuesHaveTheirTypes, TypedNumbersAreNotStuck};
 ghost use Rattle.c_meaning.specs.NumberExamples.{SumExamples, ProductExamples, QuotientExamples, BitExamples, LeftShiftExamples, RightShiftExamples, ComparisonExamples, UnaryExamples, PointerExamples};
 ghost use Rattle.c_meaning.specs.ValueExamples.{NameExamples, OrderExamples, CastExamples, ConditionExamples};
@@ -10,8 +10,10 @@ pub fn run_laws()
 {}
 
 /// A unit of the forms that have a meaning is never stuck, where its expressions and calls are typed.
+/// A run that is watched, so that being stuck is seen, is a run of the unit wherever it is not stuck.
 pub fn stuck_laws()
-    ensures { MeantUnitsAreNeverStuck }
+    ensures never { MeantUnitsAreNeverStuck }
+    ensures watched { WatchedRunsAreRuns }
 {}
 
 /// Which runs are stuck, and a unit that never is.
@@ -20,10 +22,11 @@ pub fn stuck_examples()
     ensures meant { MeantExample }
 {}
 
-/// The value of an expression is one of the type of the expression, and a typed expression of numbers is not stuck.
+/// The value of an expression is one of the type of the expression, and a typed expression of numbers is not stuck; names are as declared.
 pub fn type_laws()
     ensures types { ValuesHaveTheirTypes }
     ensures not_stuck { TypedNumbersAreNotStuck }
+    ensures declared { NamesAreAsDeclared }
 {}
 
 /// What an entry call comes to, and for how many steps.

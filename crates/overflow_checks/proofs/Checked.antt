@@ -13,7 +13,7 @@ use Rattle.int_ops.specs.declared.Stop.{Stop}
 use Rattle.int_ops.specs.declared.Stop.TheVariants.{Overflow, DivZero, Shift}
 use Rattle.c_ast.specs.declared.Target.TheVariants.{T32}
 use Rattle.c_meaning.specs.Values.{Num}
-use Rattle.c_meaning.specs.State.{Program, program_of, CState}
+use Rattle.c_meaning.specs.State.{Program, program_of, Holding, CState}
 use Rattle.overflow_checks.specs.Checks.{checks_at, is_among}
 use Rattle.overflow_checks.specs.Laws.{StopsAreChecks, RefusedGuards}
 use Rattle.overflow_checks.proofs.Given.{of_kind}
@@ -70,7 +70,7 @@ program = program_of (record { structs = []; externs = []; objects = []; functio
 
 -- a state in which a and b hold these numbers
 abbrev holding : ℤ → ℤ → CState
-holding x y = record { frame = record { values = (codes "a", Num (of_kind I32) x) ∷ (codes "b", Num (of_kind I32) y) ∷ []; objects = [] }; callers = [] }
+holding x y = record { own = (codes "a", Holding (Num (of_kind I32) x)) ∷ (codes "b", Holding (Num (of_kind I32) y)) ∷ []; callers = [] }
 
 abbrev least : ℤ
 least = pos 0 -ℤ pos 2147483648

@@ -21,7 +21,7 @@ use Rattle.c_ast.specs.Syntax.{Name, Expr, FunctionCall, Stmt, Const, ConstCall,
 use Rattle.c_meaning.specs.Values.{Trouble, Undefined, Stuck, CValue, Num, Ptr, is_true, on_ok, as_assigned, as_arguments}
 use Rattle.c_meaning.specs.State.{Program, program_of, end_in, CState, declare, enter, seen, leave}
 use Rattle.c_meaning.specs.Expressions.{eval}
-use Rattle.c_meaning.specs.Calls.{troubled, given, CallResult, Nothing, Missing, Gave, Calls, no_functions, stop_at, pieces_of, reply_value, outside_with, outside, extern_call_of, call_found, call}
+use Rattle.c_meaning.specs.Calls.{troubled, given, CallResult, Nothing, Missing, Gave, Calls, no_functions, stop_at, pieces_of, reply_shape, reply_value, outside_with, outside, call_found, call}
 use Rattle.c_meaning.specs.Statements.{with_value, with_truth, call_step, used, declaration, exec, exec_all}
 use Rattle.c_meaning.specs.Runs.{function_value, param_types, bound, function_body, function_call, with_function, entry_result, entry_values, entered, entry_among, entry, first_state, run_from}
 use Rattle.c_meaning.specs.Laws.{RunLaws}
@@ -50,15 +50,11 @@ stop_at_lawful p (v ∷ u ∷ vs) = troubled_lawful p Stuck
 
 outside_lawful : (p : Program) (x : CExtern) (args : List CValue) → Lawful (outside p x args)
 outside_lawful p x args =
-    given_lawful p (pieces_of args) (outside_with p x) (λ pieces. bind_lawful _ _ (import_call_lawful (seen p) _ _ _) (λ reply. given_lawful p (reply_value x.result reply) give give_lawful))
-
-extern_call_of_lawful : (p : Program) (x : CExtern) (result : CType) (values : List CValue) → Lawful (extern_call_of p x result values)
-extern_call_of_lawful p x Void values = given_lawful p (as_arguments p.target x.params values) (outside p x) (outside_lawful p x)
-extern_call_of_lawful p x (Value s) values = given_lawful p (as_arguments p.target x.params values) (outside p x) (outside_lawful p x)
-extern_call_of_lawful p x (Pointer constant base) values = troubled_lawful p Stuck
+    given_lawful p (pieces_of args) (outside_with p x)
+    (λ pieces. given_lawful p (reply_shape x.result) _ (λ shape. bind_lawful _ _ (import_call_lawful (seen p) _ _ _) (λ reply. given_lawful p (reply_value x.result reply) give give_lawful)))
 
 call_found_lawful : (p : Program) (functions : Calls) → LawfulCalls functions → (name : Name) (values : List CValue) (found : Option CExtern) → Lawful (call_found p functions name values found)
-call_found_lawful p functions l name values (Some x) = extern_call_of_lawful p x x.result values
+call_found_lawful p functions l name values (Some x) = given_lawful p (as_arguments p.target x.params values) (outside p x) (outside_lawful p x)
 call_found_lawful p functions l name values None = l name values
 
 pub call_lawful : (p : Program) (functions : Calls) → LawfulCalls functions → LawfulCalls (call p functions)

@@ -13,8 +13,9 @@ use Rattle.iv_script.specs.declared.End.TheVariants.{Stopped}
 use Rattle.iv_script.specs.declared.Plain.{Plain}
 use Rattle.iv_script.specs.declared.Script.{Script}
 use Rattle.iv_script.specs.Scripts.{plain_fits, values_fit, export_of, found_fits, Fits}
-use Rattle.step_semantics.specs.Steps.{World, FailedCheck, Part, give, tick, block}
+use Rattle.step_semantics.specs.Steps.{World, FailedCheck, Part, give, bind, tick, block}
 use Rattle.step_semantics.specs.Control.{Control, Falls, Broke, Returned}
+use Rattle.step_semantics.specs.Imports.{import_call}
 use Rattle.step_semantics.specs.Frames.{without, pop_frame}
 use Rattle.step_semantics.specs.Safe.{Keeps}
 use Rattle.step_semantics.proofs.FrameLaws.{keeps_in_frame}
@@ -39,7 +40,7 @@ use Rattle.c_meaning.specs.State.{Program, Frame, Holding, CState, at_rest, seen
 use Rattle.c_meaning.specs.Scopes.{local_entity, file_entity, declarations}
 use Rattle.c_meaning.specs.Expressions.{static_type, eval, eval_all}
 use Rattle.c_meaning.specs.ExpressionLaws.{IsTyped, SlotIsTyped, HoldsValue}
-use Rattle.c_meaning.specs.Calls.{given, CallResult, Nothing, Missing, Gave, Calls, no_functions, pieces_of, reply_shape, reply_value, outside_with, outside, stop_at, stop_call, extern_call_of, call_found, call}
+use Rattle.c_meaning.specs.Calls.{given, CallResult, Nothing, Missing, Gave, Calls, no_functions, pieces_of, reply_shape, reply_value, outside_with, outside, stop_at, stop_call, extern_call, call_found, call}
 use Rattle.c_meaning.specs.Statements.{with_value, with_truth, call_step, used, declaration, exec, exec_all}
 use Rattle.c_meaning.specs.Runs.{function_value, param_types, bound, function_body, function_call, with_function, entry_result, entry_values, entered, entry_among, entry, first_state_of, run_from}
 use Rattle.c_meaning.specs.Meant.{IsScalar, IsResult, Declarations, and_name, behind, of_params, Signature, stop_signature, extern_signature, function_signature, earlier_signature, or_earlier, signature_of, IsNumber, AreGiven, IsCall, IsMeant, AreMeant, FunctionIsMeant, FunctionsAreMeant, ExternIsMeant, UnitIsMeant}
@@ -154,24 +155,28 @@ module _ (u : TranslationUnit) (target : Target) where
   plain_held Truth v h = grind (arith, ints)
   plain_held (Int kind) v h = h
 
-  reply_good : (result : CType) → IsResult result → (reply : List ℤ) → IsTrue (values_fit (reply_shape result) reply) → Good (Gives result) (reply_value result reply)
-  reply_good Void is reply fits = refl
-  reply_good (Value s) is [] fits = let no : ⊥ = cc in absurd no
-  reply_good (Value s) is (v ∷ vs) fits = (plain_held s v (and_both (plain_fits (plain_of s) v) (values_fit [] vs) fits).0, refl)
-  reply_good (Pointer constant base) is reply fits = absurd is
+  -- a reply of this shape is one of the result's type
+  abbrev IsShape : CType → List Plain → Type 0
+  IsShape result shape = (reply : List ℤ) → IsTrue (values_fit shape reply) → Good (Gives result) (reply_value result reply)
+
+  value_shape : (s : CScalar) → IsShape (Value s) (plain_of s ∷ [])
+  value_shape s [] fits = let no : ⊥ = cc in absurd no
+  value_shape s (v ∷ vs) fits = (plain_held s v (and_both (plain_fits (plain_of s) v) (values_fit [] vs) fits).0, refl)
+
+  shape_good : (result : CType) → IsResult result → Good (IsShape result) (reply_shape result)
+  shape_good Void is = λ reply fits. refl
+  shape_good (Value s) is = value_shape s
+  shape_good (Pointer constant base) is = absurd is
 
   outside_keeps : (x : CExtern) → IsResult x.result → (args : List CValue) → AreHeld x.params args → (n : ℕ) (w : World) (s : CState) → Keeps IsNotStuck (CallPost x.result s) (outside p x args n w s)
   outside_keeps x is args held n w s =
       good_given (λ pieces. ⊤) (CallPost x.result s) (pieces_of args) (outside_with p x) n w s (pieces_good x.params args held)
-      (λ pieces z. keeps_after IsNotStuck (Given s (reply_shape x.result)) (CallPost x.result s) _ (λ reply. given p (reply_value x.result reply) give)
-      (keeps_import_call IsNotStuck (seen p) (λ e. cc) (λ e. cc) s (outer_name x.name) pieces (reply_shape x.result) n w)
-      (λ reply v replied m later. good_given (Gives x.result) (CallPost x.result s) (reply_value x.result reply) give m later v (reply_good x.result is reply replied.fits)
-      (λ value gives. (gives, replied.same))))
+      (λ pieces z. good_given (IsShape x.result) (CallPost x.result s) (reply_shape x.result) (λ shape. bind (import_call (seen p) (outer_name x.name) pieces shape) (λ reply. given p (reply_value x.result reply) give)) n w s (shape_good x.result is)
+      (λ shape good. keeps_after IsNotStuck (Given s shape) (CallPost x.result s) _ (λ reply. given p (reply_value x.result reply) give) (keeps_import_call IsNotStuck (seen p) (λ e. cc) (λ e. cc) s (outer_name x.name) pieces shape n w)
+      (λ reply v replied m later. good_given (Gives x.result) (CallPost x.result s) (reply_value x.result reply) give m later v (good reply replied.fits) (λ value gives. (gives, replied.same)))))
 
-  extern_keeps : (x : CExtern) (result : CType) → IsResult result → IsResult x.result → (values : List CValue) → AreNumbers x.params values → (n : ℕ) (w : World) (s : CState) → Keeps IsNotStuck (CallPost x.result s) (extern_call_of p x result values n w s)
-  extern_keeps x Void h is values numbers n w s = good_given (AreHeld x.params) (CallPost x.result s) (as_arguments target x.params values) (outside p x) n w s (arguments_good x.params values numbers) (λ args held. outside_keeps x is args held n w s)
-  extern_keeps x (Value y) h is values numbers n w s = good_given (AreHeld x.params) (CallPost x.result s) (as_arguments target x.params values) (outside p x) n w s (arguments_good x.params values numbers) (λ args held. outside_keeps x is args held n w s)
-  extern_keeps x (Pointer constant base) h is values numbers n w s = absurd h
+  extern_keeps : (x : CExtern) → IsResult x.result → (values : List CValue) → AreNumbers x.params values → (n : ℕ) (w : World) (s : CState) → Keeps IsNotStuck (CallPost x.result s) (extern_call p x values n w s)
+  extern_keeps x is values numbers n w s = good_given (AreHeld x.params) (CallPost x.result s) (as_arguments target x.params values) (outside p x) n w s (arguments_good x.params values numbers) (λ args held. outside_keeps x is args held n w s)
 
   -- a site of uint32_t is another than the one that is watched
   is_u32 : (k : CKind) (site : ℤ) → IsTrue (can_hold t k site) → Arithmetic k ≡ Arithmetic (Scalar (Int U32)) → IsTrue (in_range U32 site)
@@ -217,7 +222,7 @@ module _ (u : TranslationUnit) (target : Target) where
         let meant = find_meant name u.externs externs x e in
         let same = some_same (extern_signature x) called is in
         subst (λ r. Keeps IsNotStuck (CallPost r s) (call_found p functions name values (Some x) n w s)) (ap (λ c. c.result) same)
-        (extern_keeps x x.result meant.result meant.result values (subst (λ ts. AreNumbers ts values) (sym (ap (λ c. c.params) same)) numbers) n w s)
+        (extern_keeps x meant.result values (subst (λ ts. AreNumbers ts values) (sym (ap (λ c. c.params) same)) numbers) n w s)
 
     call_by : (test : Bool) → (if test then Some stop_signature else or_earlier earlier name (find (λ x. same_word x.name name) u.externs)) ≡ Some called
         → Keeps IsNotStuck (CallPost called.result s) ((if test then stop_call p values else call_found p functions name values (find (λ x. same_word x.name name) u.externs)) n w s)

@@ -28,7 +28,7 @@ use Rattle.c_meaning.specs.Values.{Trouble, Undefined, Stuck, CValue, Num, Ptr, 
 use Rattle.c_meaning.specs.Operators.{unary, binary}
 use Rattle.c_meaning.specs.State.{Program, program_of, CState, enter, leave, seen}
 use Rattle.c_meaning.specs.Expressions.{static_type, as_common, eval, eval_all}
-use Rattle.c_meaning.specs.Calls.{troubled, given, CallResult, Nothing, Missing, Gave, Calls, no_functions, stop_at, stop_call, pieces_of, reply_shape, reply_value, outside_with, outside, extern_call_of, call_found, call}
+use Rattle.c_meaning.specs.Calls.{troubled, given, CallResult, Nothing, Missing, Gave, Calls, no_functions, stop_at, stop_call, pieces_of, reply_shape, reply_value, outside_with, outside, call_found, call}
 use Rattle.c_meaning.specs.Statements.{with_value, with_truth, call_step, used, declaration, exec, exec_all}
 use Rattle.c_meaning.specs.Runs.{function_value, param_types, bound, function_body, function_call, with_function, entry_result, entry_values, entered, entry_among, entry, first_state_of, run_from}
 use Rattle.c_meaning.specs.Laws.{no_site, watched, IsNotStuck, WatchedRunsAreRuns}
@@ -153,22 +153,18 @@ module _ (u : TranslationUnit) (target : Target) where
 
   replied_agree : (x : CExtern) (pieces : List Piece) → Agree (outside_with p x pieces) (outside_with q x pieces)
   replied_agree x pieces =
-      agree_bind {part = import_call (seen p) (outer_name x.name) pieces (reply_shape x.result)} {next = λ reply. given p (reply_value x.result reply) give} {next' = λ reply. given q (reply_value x.result reply) give} agree_itself
-      (λ reply. given_agree (reply_value x.result reply) {next = give} {next' = give} (λ value. agree_itself))
+      given_agree (reply_shape x.result) {next = λ shape. bind (import_call (seen p) (outer_name x.name) pieces shape) (λ reply. given p (reply_value x.result reply) give)} {next' = λ shape. bind (import_call (seen q) (outer_name x.name) pieces shape) (λ reply. given q (reply_value x.result reply) give)}
+      (λ shape. agree_bind {part = import_call (seen p) (outer_name x.name) pieces shape} {next = λ reply. given p (reply_value x.result reply) give} {next' = λ reply. given q (reply_value x.result reply) give} agree_itself
+      (λ reply. given_agree (reply_value x.result reply) {next = give} {next' = give} (λ value. agree_itself)))
 
   outside_agree : (x : CExtern) (args : List CValue) → Agree (outside p x args) (outside q x args)
   outside_agree x args = given_agree (pieces_of args) {next = outside_with p x} {next' = outside_with q x} (replied_agree x)
-
-  extern_agree : (x : CExtern) (result : CType) (values : List CValue) → Agree (extern_call_of p x result values) (extern_call_of q x result values)
-  extern_agree x Void values = given_agree (as_arguments target x.params values) {next = outside p x} {next' = outside q x} (outside_agree x)
-  extern_agree x (Value s) values = given_agree (as_arguments target x.params values) {next = outside p x} {next' = outside q x} (outside_agree x)
-  extern_agree x (Pointer constant base) values = troubled_agree Stuck
 
   abbrev CallsAgree : Calls → Calls → Type 0
   CallsAgree functions functions' = (name : Name) (values : List CValue) → Agree (functions name values) (functions' name values)
 
   found_agree : (functions functions' : Calls) → CallsAgree functions functions' → (name : Name) (values : List CValue) (found : Option CExtern) → Agree (call_found p functions name values found) (call_found q functions' name values found)
-  found_agree functions functions' h name values (Some x) = extern_agree x x.result values
+  found_agree functions functions' h name values (Some x) = given_agree (as_arguments target x.params values) {next = outside p x} {next' = outside q x} (outside_agree x)
   found_agree functions functions' h name values None = h name values
 
   call_agree : (functions functions' : Calls) → CallsAgree functions functions' → CallsAgree (call p functions) (call q functions')

@@ -61,11 +61,11 @@ pieces_of [] = Ok []
 pieces_of (Num kind v ∷ vs) = on_ok (pieces_of vs) (λ pieces. Ok (piece.Value v ∷ pieces))
 pieces_of (Ptr constant base to ∷ vs) = Err Stuck
 
--- the types of the values that a reply gives
-abbrev pub reply_shape : CType → List Plain
-reply_shape Void = []
-reply_shape (Value s) = plain_of s ∷ []
-reply_shape (Pointer constant base) = []
+-- the types of the values that a reply gives; none gives a pointer
+abbrev pub reply_shape : CType → Result (List Plain) Trouble
+reply_shape Void = Ok []
+reply_shape (Value s) = Ok (plain_of s ∷ [])
+reply_shape (Pointer constant base) = Err Stuck
 
 -- the value of the call, from those of the reply
 abbrev pub reply_value : CType → List ℤ → Result CallResult Trouble
@@ -75,19 +75,13 @@ reply_value (Value s) (v ∷ vs) = Ok (Gave (Num (Scalar s) v))
 reply_value (Pointer constant base) vs = Err Stuck
 
 abbrev pub outside_with : Program → CExtern → List Piece → Part CState CallResult
-outside_with p x pieces = bind (import_call (seen p) (outer_name x.name) pieces (reply_shape x.result)) (λ reply. given p (reply_value x.result reply) give)
+outside_with p x pieces = given p (reply_shape x.result) (λ shape. bind (import_call (seen p) (outer_name x.name) pieces shape) (λ reply. given p (reply_value x.result reply) give))
 
 abbrev pub outside : Program → CExtern → List CValue → Part CState CallResult
 outside p x args = given p (pieces_of args) (outside_with p x)
 
--- no reply gives a pointer
-abbrev pub extern_call_of : Program → CExtern → CType → List CValue → Part CState CallResult
-extern_call_of p x Void values = given p (as_arguments p.target x.params values) (outside p x)
-extern_call_of p x (Value s) values = given p (as_arguments p.target x.params values) (outside p x)
-extern_call_of p x (Pointer constant base) values = troubled p Stuck
-
 abbrev pub extern_call : Program → CExtern → List CValue → Part CState CallResult
-extern_call p x values = extern_call_of p x x.result values
+extern_call p x values = given p (as_arguments p.target x.params values) (outside p x)
 
 -- ---- any call
 

@@ -1,4 +1,5 @@
 pub mod Parts
+pub mod Faults
 pub mod Rows
 pub mod Placed
 pub mod Words

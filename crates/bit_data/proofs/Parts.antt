@@ -1,5 +1,5 @@
 -- Parts of numbers from 0: a number with x in the place of some of its bits.
-use Rattle.std.proofs.Common.{◌≡◌, ℕ, ◌+◌, ◌-◌, ◌*◌, ◌/◌, ◌%◌, ◌^◌, ◌<◌, ◌≤◌, ℤ, pos, negsuc, ◌-ℤ◌, ◌+ℤ◌, ◌*ℤ◌, inr, to_z, of_z, FitsSigned, Bool, false, IsTrue, arith, refl, sym, subst, ap, ◌∙◌}
+use Rattle.std.proofs.Common.{◌≡◌, ℕ, ◌+◌, ◌-◌, ◌*◌, ◌/◌, ◌%◌, ◌^◌, ◌<◌, ◌≤◌, ℤ, pos, negsuc, ◌-ℤ◌, ◌+ℤ◌, ◌*ℤ◌, inr, to_z, of_z, FitsSigned, false, IsTrue, arith, refl, sym, subst, ap, ◌∙◌}
 use Rattle.std.proofs.lemmas.Int.{ints}
 use Rattle.std.proofs.lemmas.Nat.{pow_pos, pow-add, mod_below, div-add-mod', div-mul-add, mod-mul-add, shr-shr, shl_below}
 use mir.Syntax.{w128}
@@ -7,7 +7,7 @@ use Rattle.std.proofs.Math.Nat.{div-eq_of_lt, lt-div-mul-add, add-mul-div_right,
 use Rattle.iv_words.specs.Kinds.{in_range_of}
 use Rattle.iv_words.proofs.Ranges.{powers_grow}
 use Rattle.int_ops.proofs.Wide.{IsWide, wide, as_it_is, difference_is}
-use Rattle.bit_data.specs.Fields.{part, with_part, HasPart}
+use Rattle.bit_data.specs.Fields.{with_part, HasPart}
 
 -- n with x in those bits: what stands above them, x, and what stands below them
 abbrev pub put : (low bits n x : ℕ) → ℕ

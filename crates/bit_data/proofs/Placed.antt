@@ -12,10 +12,11 @@ use Rattle.bit_data.specs.declared.layout.FieldBits.{FieldBits}
 use Rattle.bit_data.specs.declared.layout.BitLayout.{BitLayout}
 use Rattle.bit_data.specs.declared.fault.LayoutFault.{LayoutFault}
 use Rattle.bit_data.specs.declared.fault.LayoutFault.TheVariants.{WidthSum}
-use Rattle.bit_data.specs.Layouts.{bits_of, has_its_bit, is_filled, first_fault, placed_at, placed_from, faultless, laid_out, wish_of, wishes_of, IsLayout}
+use Rattle.bit_data.specs.Layouts.{bits_of, has_its_bit, is_filled, first_fault, placed_at, placed_from, faultless, laid_out, wishes_of, IsLayout}
 use Rattle.bit_data.specs.Fields.{field_at}
-use Rattle.bit_data.specs.Laws.{IsInWord}
-use Rattle.bit_data.proofs.Rows.{no_wish, placed_length, placed_is, placed_bits, placed_wishes, ends_before, ends_inside, has_bits}
+use Rattle.bit_data.specs.Laws.{wish_at, IsInWord}
+use Rattle.bit_data.proofs.Faults.{faultless_fields_are_sound}
+use Rattle.bit_data.proofs.Rows.{placed_length, placed_is, placed_bits, placed_wishes, ends_before, ends_inside}
 
 -- the word is filled by these wishes
 pub record IsFilled (word : IntKind) (wishes : List FieldWish) : Type 0 where
@@ -75,13 +76,13 @@ laid_is word wishes layout truths laid =
 
 -- ---- of a layout
 
-pub field_is : (l : BitLayout) (h : IsLayout l) (i : ℕ) → i < length l.fields → field_at l i ≡ placed_at (bits_of (take i (wishes_of l))) (get_or (wishes_of l) i no_wish)
+pub field_is : (l : BitLayout) (h : IsLayout l) (i : ℕ) → i < length l.fields → field_at l i ≡ placed_at (bits_of (take i (wishes_of l))) (wish_at (wishes_of l) i)
 field_is l h i k =
     let s = stands l (wishes_of l) h.laid in
     let start : 0 + bits_of (take i (wishes_of l)) ≡ bits_of (take i (wishes_of l)) = omega arith in
     let none : FieldBits = record { name = []; low = 0; width = 0; truth = false } in
     let within : i < length (wishes_of l) = omega (arith, ap length s.fields, placed_length 0 (wishes_of l)) in
-    ap (λ fs. get_or fs i none) s.fields ∙ placed_is 0 (wishes_of l) i none within ∙ ap (λ n. placed_at n (get_or (wishes_of l) i no_wish)) start
+    ap (λ fs. get_or fs i none) s.fields ∙ placed_is 0 (wishes_of l) i none within ∙ ap (λ n. placed_at n (wish_at (wishes_of l) i)) start
 
 pub wish_within : (l : BitLayout) (h : IsLayout l) (i : ℕ) → i < length l.fields → i < length (wishes_of l)
 wish_within l h i k = let s = stands l (wishes_of l) h.laid in omega (arith, ap length s.fields, placed_length 0 (wishes_of l))
@@ -98,11 +99,11 @@ pub in_word : (l : BitLayout) → IsLayout l → (i : ℕ) → i < length l.fiel
 in_word l h i k =
     let s = stands l (wishes_of l) h.laid in
     let within = wish_within l h i k in
-    let w = get_or (wishes_of l) i no_wish in
-    let truths : has_its_bit w ≡ true = AllPass-from_list_all has_its_bit (wishes_of l) h.truths i no_wish within in
+    let w = wish_at (wishes_of l) i in
+    let truths : has_its_bit w ≡ true = AllPass-from_list_all has_its_bit (wishes_of l) h.truths i (record { name = []; width = 0; truth = false }) within in
     let is = field_is l h i k in
     record {
-      some = subst (λ (f : FieldBits). 1 ≤ f.width) (sym is) (has_bits [] (wishes_of l) s.faultless i within);
+      some = subst (λ (f : FieldBits). 1 ≤ f.width) (sym is) (faultless_fields_are_sound (wishes_of l) s.faultless i within).some;
       inside = subst (λ (f : FieldBits). f.low + f.width ≤ width l.word) (sym is) (omega (arith, ends_inside (wishes_of l) i within, s.filled.sum));
       truth = subst (λ (f : FieldBits). f.truth ≡ true → f.width ≡ 1) (sym is) (one_bit w truths);
     }

@@ -1,5 +1,5 @@
 -- Words of a layout: what a change of one field does.
-use Rattle.std.proofs.Common.{◌≡◌, ◌⊎◌, inl, inr, ℕ, ◌+◌, ◌^◌, ◌<◌, ◌≤◌, ℤ, pos, negsuc, ◌≤ℤ◌, List, [], length, get_or, Bool, true, false, Result, Ok, Err, IfOk, IsTrue, refl, sym, subst, ap, ◌∙◌, arith}
+use Rattle.std.proofs.Common.{◌≡◌, ◌⊎◌, inl, inr, ℕ, ◌+◌, ◌^◌, ◌<◌, ◌≤◌, ℤ, pos, negsuc, ◌≤ℤ◌, List, [], length, get_or, Bool, true, false, Ok, Err, IfOk, IsTrue, refl, subst, ap, ◌∙◌, arith}
 use Rattle.std.specs.Prelude.{int_lt, if◌then◌else◌}
 use Rattle.std.specs.Int.{int_div_euclid}
 use Rattle.std.proofs.lemmas.Int.{ints}
@@ -14,8 +14,8 @@ use Rattle.bit_data.specs.declared.layout.FieldBits.{FieldBits}
 use Rattle.bit_data.specs.declared.layout.BitLayout.{BitLayout}
 use Rattle.bit_data.specs.declared.fault.TooWide.{TooWide}
 use Rattle.bit_data.specs.Layouts.{wishes_of, IsLayout}
-use Rattle.bit_data.specs.Fields.{part, with_part, field_at, field_of, changed, HasPart}
-use Rattle.bit_data.specs.Laws.{IsInWord, IsChanged, FieldsStandInARow, FieldsAreInTheWord, FieldsHoldNumbers, ChangedFieldsHold, OtherFieldsStay, ChangedWordsFit}
+use Rattle.bit_data.specs.Fields.{with_part, field_at, field_of, changed, HasPart}
+use Rattle.bit_data.specs.Laws.{IsChanged, FieldsStandInARow, FieldsAreInTheWord, FieldsHoldNumbers, ChangedFieldsHold, OtherFieldsStay, ChangedWordsFit}
 use Rattle.bit_data.proofs.Parts.{with_has, with_fits}
 use Rattle.bit_data.proofs.Placed.{stands, in_a_row, in_word, before_later}
 

@@ -1,5 +1,5 @@
 -- The numbers in the fields of a word: what some of its bits hold, and the word with another number in them.
-use Rattle.std.specs.Prelude.{◌≡◌, ℕ, ◌+◌, ◌^◌, ◌≤◌, ℤ, pos, ◌+ℤ◌, ◌-ℤ◌, ◌*ℤ◌, int_lt, List, [], get_or, Bool, false, if◌then◌else◌, Result, Ok, Err}
+use Rattle.std.specs.Prelude.{◌≡◌, ℕ, ◌+◌, ◌^◌, ◌≤◌, ℤ, pos, ◌+ℤ◌, ◌-ℤ◌, ◌*ℤ◌, int_lt, [], get_or, false, if◌then◌else◌, Result, Ok, Err}
 use Rattle.std.specs.Int.{int_div_euclid}
 use Rattle.iv_words.specs.Bits.{modulo}
 use Rattle.bit_data.specs.declared.layout.FieldBits.{FieldBits}

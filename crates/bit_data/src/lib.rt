@@ -13,6 +13,6 @@ mod tests;
 
 pub use fault::{LayoutFault, TooWide};
 pub use fields::{field_of, with_field};
-pub use laws::{changed_words, fields_of_words};
+pub use laws::{changed_words, faults_of_fields, fields_of_words};
 pub use layout::{BitLayout, FieldBits, FieldWish};
 pub use layouts::check_layout;

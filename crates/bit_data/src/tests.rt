@@ -33,7 +33,7 @@ fn layout_of(alloc: Global, word: IntKind, rows: &[Row]) -> Result<BitLayout, La
 {
     let mut wishes = Seq::new(alloc);
     for row in rows {
-        let next = wish(alloc, *row)?;
+        let next = wish(alloc, *row)?.copy(alloc)?;
         wishes.push(next)?;
     }
     check_layout(alloc, word, &wishes)

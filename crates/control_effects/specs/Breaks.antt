@@ -1,6 +1,6 @@
 -- Whether a break of the loop around a block stands in it, also where it is not reached. A break in an inner loop leaves that loop.
 use Rattle.std.specs.Prelude.{Bool, true, false, ◌||◌}
-use Rattle.ivory_tree.specs.Syntax.{StmtSyntax, Let, LetCall, Alloc, Store, Copy, Call, If, IfElse, Map, Upto, Downto, Forever, Break, Return, Assert, NoAlloc, NoBreak, NoReturn, BlockSyntax, Braces, StmtsSyntax, NoStmts, MoreStmts}
+use Rattle.ivory_tree.specs.Syntax.{StmtSyntax, If, IfElse, Break, NoAlloc, NoBreak, NoReturn, BlockSyntax, Braces, StmtsSyntax, NoStmts, MoreStmts}
 
 abbrev mutual
   pub stmt_breaks : StmtSyntax → Bool

@@ -1,10 +1,8 @@
-use Rattle.std.proofs.Common.{◌≡◌, ◌+◌, true, false, drop, Some, None, sym, ap, ◌∙◌, arith}
-use Rattle.ivory_tree.specs.Places.{stmt_span}
-use Rattle.ivory_tree.specs.Syntax.{StmtsSyntax, MoreStmts}
+use Rattle.std.proofs.Common.{◌≡◌, ◌+◌, drop, Some, sym, ap, ◌∙◌, arith}
+use Rattle.ivory_tree.specs.Syntax.{MoreStmts}
 use Rattle.ivory_tree.specs.View.{stmt_of, stmts_of}
 use Rattle.ivory_tree.proofs.Places.{stmt_place}
-use Rattle.control_effects.specs.Falling.{stmt_falls}
-use Rattle.control_effects.specs.Unreached.{first, within_stmt, within_stmts}
+use Rattle.control_effects.specs.Unreached.{first, within_stmts}
 use Rattle.control_effects.proofs.Rows.{next_of, unreached_here, unreached_within, unreached_later}
 use Rattle.control_effects.proofs.unreached.+unreached.Goals as goal
 

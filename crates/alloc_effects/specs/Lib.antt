@@ -1,0 +1,3 @@
+pub mod Permissions
+pub mod Effects
+pub mod Examples

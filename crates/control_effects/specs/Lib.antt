@@ -1,0 +1,4 @@
+pub mod Breaks
+pub mod Falling
+pub mod Unreached
+pub mod Examples

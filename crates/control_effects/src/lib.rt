@@ -1,0 +1,12 @@
+//! Paths through a block: whether it falls through, and which of its statements is reached.
+#![tactic(auto)]
+
+mod breaks;
+mod falling;
+pub mod laws;
+#[cfg(test)]
+mod tests;
+mod unreached;
+
+pub use falling::falls_through;
+pub use unreached::first_unreached;

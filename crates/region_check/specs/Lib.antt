@@ -1,0 +1,6 @@
+pub mod Substitutions
+pub mod Calls
+pub mod Faults
+pub mod Found
+pub mod View
+pub mod Examples

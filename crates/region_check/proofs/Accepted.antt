@@ -1,12 +1,12 @@
 -- Arguments that are accepted one after the other fit under what is known of them, and no substitution fits one at fault.
-use Rattle.std.proofs.Common.{◌≡◌, ◌≢◌, ℕ, List, [], ◌∷◌, ◌++◌, Option, Some, None, IsTrue, refl, sym, ap, ◌∙◌, subst, append_assoc, append-nil}
+use Rattle.std.proofs.Common.{◌≡◌, ℕ, List, [], ◌∷◌, ◌++◌, Option, Some, None, refl, sym, ap, ◌∙◌, subst, append_assoc, append-nil}
 use Rattle.area_types.specs.declared.region.Region.{Region}
 use Rattle.area_types.specs.declared.region.Region.TheVariants.{Global, Param, Own}
 use Rattle.std.proofs.Common.{◌==◌, Bool, true, false, eqb-true}
 use Rattle.std.specs.Prelude.{if◌then◌else◌}
 use Rattle.region_check.specs.Substitutions.{under}
 use Rattle.region_check.specs.Calls.{Reference, Passed, FitsReference, Fits, AllFit}
-use Rattle.region_check.specs.Faults.{region_at, region_from, or_else, known, required, Allows, Accepts, AcceptsPassed, AcceptedAfter, IsFault, IsNoReference, IsFaultOf}
+use Rattle.region_check.specs.Faults.{region_at, region_from, or_else, known, required, Allows, AcceptsPassed, AcceptedAfter, IsFault, IsFaultOf}
 use Rattle.region_check.specs.declared.fault.RegionFault.{RegionFault}
 use Rattle.region_check.specs.declared.fault.RegionFault.TheVariants.{Clash, Mutable, AreaDiffers, Memory}
 use Rattle.region_check.proofs.Known.{known_keeps, known_begins, region_here}

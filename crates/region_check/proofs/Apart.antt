@@ -1,5 +1,5 @@
 -- What areas say tells them apart.
-use Rattle.std.proofs.Common.{◌≡◌, refl, sym, ap, ◌∙◌, subst}
+use Rattle.std.proofs.Common.{◌≡◌, sym, ap, ◌∙◌, subst}
 use Rattle.area_types.specs.Syntax as syntax
 use Rattle.area_types.specs.Syntax.{ValueType, Area}
 use Rattle.area_types.specs.View.{type_of, area_of, area_step, type_step, ref_step}

@@ -1,5 +1,5 @@
 -- Parameters with their arguments, from the front.
-use Rattle.std.proofs.Common.{◌≡◌, ℕ, zero, suc, ◌+◌, ◌<◌, ◌≤◌, List, [], ◌∷◌, ◌++◌, length, take, drop, get_or, map, refl, sym, ap, ◌∙◌, arith}
+use Rattle.std.proofs.Common.{◌≡◌, ℕ, zero, suc, ◌<◌, ◌≤◌, List, [], ◌∷◌, ◌++◌, length, take, drop, get_or, map, refl, sym, ap, ◌∙◌, arith}
 use Rattle.area_types.specs.View.{type_of}
 use Rattle.area_types.specs.declared.area.ValueType.{ValueType}
 use Rattle.region_check.specs.Calls.{Passed, passed, call}

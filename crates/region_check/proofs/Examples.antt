@@ -1,6 +1,5 @@
 -- Small calls.
 use Rattle.std.proofs.Common.{◌≡◌, refl, sym, ◌∙◌}
-use Rattle.area_types.specs.declared.region.Region.{Region}
 use Rattle.area_types.specs.declared.region.Region.TheVariants.{Global, Own}
 use Rattle.region_check.specs.Examples.{TwoRegionsClash, ConstIsNotMutable, MutableIsConst}
 

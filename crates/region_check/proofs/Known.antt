@@ -1,13 +1,13 @@
 -- What is known of region parameters from arguments, and the list that holds it.
-use Rattle.std.proofs.Common.{◌≡◌, ℕ, zero, suc, ◌<◌, ◌≤◌, ◌==◌, Bool, true, false, ◌&&◌, List, [], ◌∷◌, ◌++◌, length, Option, Some, None, slice_get, get_or, IsTrue, refl, sym, ap, ◌∙◌, arith, length-append, eqb-true, eq-eqb}
-use Rattle.std.specs.Prelude.{nat_lt, nat_le, max, if◌then◌else◌}
+use Rattle.std.proofs.Common.{◌≡◌, ℕ, zero, suc, ◌<◌, ◌==◌, Bool, true, false, List, [], ◌∷◌, ◌++◌, length, Option, Some, None, slice_get, get_or, IsTrue, refl, sym, ap, ◌∙◌, arith, length-append, eqb-true, eq-eqb}
+use Rattle.std.specs.Prelude.{nat_lt, max, if◌then◌else◌}
 use Rattle.std.proofs.lemmas.Bool.Decides.{nat_tests}
 use Rattle.std.proofs.lemmas.Option.{slice_get-get_or}
 use Rattle.area_types.specs.declared.region.Region.{Region}
 use Rattle.area_types.specs.declared.region.Region.TheVariants.{Global, Param, Own}
-use Rattle.region_check.specs.Calls.{Reference, Passed}
+use Rattle.region_check.specs.Calls.{Passed}
 use Rattle.region_check.specs.Faults.{region_at, region_from, or_else, known}
-use Rattle.region_check.specs.Found.{may_come, may_follow, occurred, count_with, learned}
+use Rattle.region_check.specs.Found.{may_come, occurred, learned}
 
 or_assoc : (a b c : Option Region) → or_else a (or_else b c) ≡ or_else (or_else a b) c
 or_assoc None b c = refl

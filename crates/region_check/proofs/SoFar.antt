@@ -1,5 +1,5 @@
 -- What holds of the arguments so far and of the regions learned from them.
-use Rattle.std.proofs.Common.{◌≡◌, ℕ, zero, suc, ◌+◌, ◌<◌, ◌≤◌, Bool, true, false, ◌&&◌, List, [], ◌∷◌, ◌++◌, length, take, drop, drop-cons, get_or, map, Option, Some, None, slice_get, IsTrue, refl, sym, ap, ◌∙◌, subst, add-one, arith}
+use Rattle.std.proofs.Common.{◌≡◌, ℕ, suc, ◌+◌, ◌<◌, ◌≤◌, Bool, true, false, ◌&&◌, List, [], ◌∷◌, ◌++◌, length, take, drop, drop-cons, get_or, map, Option, Some, None, slice_get, IsTrue, refl, sym, ap, ◌∙◌, subst, add-one, arith}
 use Rattle.std.specs.Prelude.{unwrap_or}
 use Rattle.std.proofs.lemmas.List.{take_all, drop_all}
 use Rattle.std.proofs.lemmas.Option.{slice_get-get_or, unwrap_or-slice_get}
@@ -9,7 +9,7 @@ use Rattle.area_types.specs.declared.region.Region.{Region}
 use Rattle.area_types.specs.declared.region.Region.TheVariants.{Global, Param, Own}
 use Rattle.region_check.specs.Substitutions.{region_of}
 use Rattle.region_check.specs.Calls.{Reference, Passed, passed, reference_of, AllFit}
-use Rattle.region_check.specs.Faults.{argument_number, region_at, region_from, or_else, known, required, Accepts, AcceptsPassed, AcceptedAfter, IsFault, IsFaultOf, FirstFault, NoneFits, Refused}
+use Rattle.region_check.specs.Faults.{argument_number, region_from, or_else, known, required, Accepts, AcceptsPassed, AcceptedAfter, IsFault, IsFaultOf, FirstFault, Refused}
 use Rattle.region_check.specs.Found.{may_follow, count_with, is_numbered, region_count, learned_from, Found}
 use Rattle.region_check.specs.declared.fault.RegionFault.{RegionFault}
 use Rattle.region_check.specs.declared.fault.RegionFault.TheVariants.{Clash, Mutable, AreaDiffers, Memory}

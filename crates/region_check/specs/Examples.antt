@@ -1,6 +1,6 @@
 -- Small calls: two regions for one region parameter, const and mutable references, and how parameters are numbered.
-use Rattle.std.specs.Prelude.{◌≡◌, ℕ, true, false, List, [], ◌∷◌}
-use Rattle.area_types.specs.Syntax.{ValueType, Ref, Area}
+use Rattle.std.specs.Prelude.{◌≡◌, ℕ, true, false, [], ◌∷◌}
+use Rattle.area_types.specs.Syntax.{Ref, Area}
 use Rattle.area_types.specs.declared.region.Region.{Region}
 use Rattle.area_types.specs.declared.region.Region.TheVariants.{Global, Param, Own}
 use Rattle.region_check.specs.Calls.{call, AllFit}

@@ -1,7 +1,7 @@
 -- The substitution of a call. The region parameters of the callee are numbered from 0 in the order in which they first occur, and
 -- no parameter has region Own.
 use Rattle.std.specs.Prelude.{◌≡◌, ℕ, suc, ◌<◌, Bool, true, false, ◌&&◌, nat_le, nat_lt, max, if◌then◌else◌, List, [], ◌∷◌, ◌++◌, length, Option, Some, None}
-use Rattle.area_types.specs.Syntax.{ValueType, Ref}
+use Rattle.area_types.specs.Syntax.{ValueType}
 use Rattle.area_types.specs.declared.region.Region.{Region}
 use Rattle.area_types.specs.declared.region.Region.TheVariants.{Global, Param, Own}
 use Rattle.region_check.specs.Calls.{Reference, Passed, reference_of, AllFit}

@@ -80,7 +80,9 @@ fn regions_are_replaced(rt: HostRuntime) -> Result<(), Memory> {
     let own = reference(true, Region::Own, 3);
     assert!(rt; escapes(&own));
     assert!(rt; !escapes(&ValueType::Bool));
-    let kept = apply_subst(alloc, &Seq::new(alloc), &own)?;
-    assert!(rt; kept.same(&own));
+    let mut subst = Seq::new(alloc);
+    subst.push(Region::Own)?;
+    let replaced = apply_subst(alloc, &subst, &reference(true, Region::Param(0), 3))?;
+    assert!(rt; replaced.same(&own));
     Ok(())
 }

@@ -13,5 +13,5 @@ returns-in_err-unit-clause-emitted g c =
 
 pub returns-clause-emitted : goal.returns-clause-emitted
 returns-clause-emitted g c =
-    emitted_written c.args.file.now c.in_ok-text.text c.as_slice.result.now _ _ c.in_ok-unit.unit c.write.result c.in_ok-text.ensures.loaded c.as_slice.ensures
-    c.in_ok-unit.ensures c.write.ensures
+    emitted_written c.args.file.now c.in_ok-text.text c.as_slice.result.now _ _ c.in_ok-unit.unit c.write-written.result c.in_ok-text.ensures.loaded c.as_slice.ensures
+    c.in_ok-unit.ensures c.write-written.ensures

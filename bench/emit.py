@@ -3,7 +3,6 @@
 writes it there with --write."""
 import os
 import re
-import resource
 import shutil
 import subprocess
 import sys
@@ -49,18 +48,20 @@ def instructions(command):
     return int(re.search(r"refs:\s+([\d,]+)", run.stderr).group(1).replace(",", ""))
 
 
-def peak(command):
-    """The greatest resident size of a command, in bytes."""
-    code = "import resource, subprocess, sys; subprocess.run(sys.argv[1:], stdout=subprocess.DEVNULL, stderr=subprocess.DEVNULL); print(resource.getrusage(resource.RUSAGE_CHILDREN).ru_maxrss)"
-    return int(subprocess.run([sys.executable, "-c", code, *command], stdout=subprocess.PIPE, check=True).stdout) * 1024
+def peak(command, folder):
+    """The greatest number of bytes on the heap of a command, by massif."""
+    out = os.path.join(folder, "massif.out")
+    subprocess.run(["valgrind", "--tool=massif", f"--massif-out-file={out}", *command], stdout=subprocess.DEVNULL, stderr=subprocess.DEVNULL, check=False)
+    with open(out) as file:
+        return max(int(held) for held in re.findall(r"mem_heap_B=(\d+)", file.read()))
 
 
-def row(name, text, folder, start):
+def row(name, text, folder):
     path, written = os.path.join(folder, "m.iv"), os.path.join(folder, "m.c")
     with open(path, "w") as file:
         file.write(text)
     command = [PROGRAM, "emit", path]
-    ours, bytes_held = instructions(command), peak(command) - start
+    ours, bytes_held = instructions(command), peak(command, folder)
     with open(written, "wb") as file:
         compiled = subprocess.run(command, stdout=file, stderr=subprocess.DEVNULL, check=False).returncode == 0
     out, theirs, ratio = "", "", ""
@@ -74,14 +75,10 @@ def row(name, text, folder, start):
 
 def table():
     with tempfile.TemporaryDirectory() as folder:
-        empty = os.path.join(folder, "empty.iv")
-        with open(empty, "w") as file:
-            file.write("module m;\n")
-        start = peak([PROGRAM, "emit", empty])
-        lines = ["| Text | Bytes in | Bytes out | Instructions, millions | for each byte read | `tcc -c`, millions | ratio | Bytes of memory for each byte read |\n",
+        lines = ["| Text | Bytes in | Bytes out | Instructions, millions | for each byte read | `tcc -c`, millions | ratio | Bytes of heap for each byte read |\n",
                  "|---|---|---|---|---|---|---|---|\n"]
-        lines += [row(name, text, folder, start) for name, text in texts()]
-        lines.append(row("statements of the whole language, read alone", whole_language(), folder, start))
+        lines += [row(name, text, folder) for name, text in texts()]
+        lines.append(row("statements of the whole language, read alone", whole_language(), folder))
     return "".join(lines)
 
 

@@ -1,0 +1,13 @@
+pub mod Bytes
+pub mod Representations
+pub mod Faithful
+pub mod Codecs
+pub mod Objects
+pub mod Seen
+pub mod Access
+pub mod Blocks
+pub mod Initializers
+pub mod Copies
+pub mod Abstract
+pub mod Holds
+pub mod Memories

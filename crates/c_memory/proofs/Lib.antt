@@ -1,0 +1,5 @@
+pub mod Lists
+pub mod Bytes
+pub mod Laid
+pub mod Accesses
+pub mod Memories

@@ -157,10 +157,21 @@ module _ {S N V B : Type 0} (r : Representation S V B) (Can : S → V → Type 0
         same = seen_scalars r Can faithful (blank_bytes r a) 0 (0 + size r.metric a) (lay r.metric a 0) vs (lay_ascends r.metric a 0) (omega (arith, long)) fits;
       })
 
+  alone : (mem : Objects S N B) (o : ℕ) (c d : Bool) (a b : Tree S N) (us ws : List (Option V)) → ShowsAt r mem o c a us → ShowsAt r mem o d b ws → (c ≡ d) × (a ≡ b) × (us ≡ ws)
+  alone mem o c d a b us ws h k =
+      let same : h.object ≡ k.object = (let e : Some h.object ≡ Some k.object = sym h.is ∙ k.is in cc) in
+      let types : a ≡ b = sym h.shows.type ∙ ap (λ ob. ob.type) same ∙ k.shows.type in
+      (
+        sym h.constant ∙ ap (λ ob. ob.constant) same ∙ k.constant,
+        types,
+        sym h.shows.same ∙ ap (λ ob. seen r ob.bytes (lay r.metric a 0)) same ∙ ap (λ c. seen r k.object.bytes (lay r.metric c 0)) types ∙ k.shows.same,
+      )
+
   pub lawful : Lawful r.metric Can (memory {N = N} r)
   lawful = record {
     lives = λ mem o c a us h. ap lives h.is ∙ h.shows.live;
     numbered = numbered r;
+    alone = alone;
     whole = λ mem o c a us h. sym (ap length h.shows.same) ∙ length-map (lay r.metric a 0) (scalar_in r h.object.bytes);
     reads = reads;
     unlaid_reads = unlaid_reads;

@@ -62,7 +62,8 @@ module _ {S N V : Type 0} (m : Metric S) (M : Operations S N V) where
 pub record Lawful {S N V : Type 0} (m : Metric S) (Can : S → V → Type 0) (M : Operations S N V) : Type 0 where
   pub lives : (mem : M.Memory) (o : ℕ) (c : Bool) (a : Tree S N) (us : List (Option V)) → M.Shows mem o c a us → M.live mem o ≡ true
   pub numbered : (mem : M.Memory) (o : ℕ) → M.live mem o ≡ true → o < M.count mem
-  -- what an object shows has a value for each scalar of its type
+  -- an object shows one thing, with a value for each scalar of its type
+  pub alone : (mem : M.Memory) (o : ℕ) (c d : Bool) (a b : Tree S N) (us ws : List (Option V)) → M.Shows mem o c a us → M.Shows mem o d b ws → (c ≡ d) × (a ≡ b) × (us ≡ ws)
   pub whole : (mem : M.Memory) (o : ℕ) (c : Bool) (a : Tree S N) (us : List (Option V)) → M.Shows mem o c a us → length us ≡ length (lay m a 0)
   -- a read gives what the scalar shows
   pub reads : (mem : M.Memory) (o : ℕ) (c : Bool) (a : Tree S N) (x : ℕ × S) (before after : List (Option V)) (u : Option V)

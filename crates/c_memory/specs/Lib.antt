@@ -11,3 +11,4 @@ pub mod Copies
 pub mod Abstract
 pub mod Holds
 pub mod Memories
+pub mod ValueLaws

@@ -5,3 +5,5 @@ pub mod Accesses
 pub mod Memories
 pub mod Codecs
 pub mod Several
+pub mod Cells
+pub mod Values

@@ -1,8 +1,9 @@
 -- What holds of objects that hold values, in any memory that keeps the laws: reads, stores, copies, replies, first values, blocks.
-use Rattle.std.specs.Prelude.{◌≡◌, ◌≢◌, ℕ, ◌<◌, List, [], ◌∷◌, length, map, Option, Some, Result, Ok, Err, Bool, false}
-use Rattle.type_trees.specs.Trees.{Tree, Leaf, count, part}
+use Rattle.std.specs.Prelude.{◌≡◌, ◌≢◌, ℕ, ◌<◌, List, [], ◌∷◌, map, Option, Some, Result, Ok, Err, Bool, false}
+use Rattle.type_trees.specs.Trees.{Tree, Leaf, part}
 use Rattle.type_trees.specs.Layouts.{Metric, lay, offset}
 use Rattle.type_trees.specs.Values.{Value, Cell, Fits, cells, at, put}
+use Rattle.c_memory.specs.Seen.{EachFits}
 use Rattle.c_memory.specs.Access.{Fault, Indeterminate}
 use Rattle.c_memory.specs.Copies.{read_each, write_each, copy_each, rebuilt}
 use Rattle.c_memory.specs.Abstract.{Operations, Same}
@@ -16,10 +17,6 @@ module _ {S N V W : Type 0} (m : Metric S) (Can : S → V → Type 0) (f : W →
 
   abbrev pub FitsType : Tree S N → Value W → Type 0
   FitsType a v = Fits (λ s w. Can s (f w)) a v
-
-  -- each cell can be held by its scalar, the first by the first
-  abbrev pub EachCell : Tree S N → List W → Type 0
-  EachCell b ws = FitsType b (rebuilt b ws)
 
   -- what was done succeeds, object o then holds v, and no other object has changed
   pub record Stored (done : Result M.Memory Fault) (mem : M.Memory) (o : ℕ) (a : Tree S N) (v : Value W) : Type 0 where
@@ -41,7 +38,7 @@ module _ {S N V W : Type 0} (m : Metric S) (Can : S → V → Type 0) (f : W →
     pub part_written : (mem : M.Memory) (o : ℕ) (a : Tree S N) (v : Value W) (p : List ℕ) (b : Tree S N) (u : Value W)
         → Holds Can f M mem o false a v → part a p ≡ Some b → FitsType b u → Stored (write_each M.write mem o (part_scalars a p b) (map f (cells u))) mem o a (put v p u)
     pub reply_written : (mem : M.Memory) (o : ℕ) (a : Tree S N) (v : Value W) (p : List ℕ) (b : Tree S N) (ws : List W)
-        → Holds Can f M mem o false a v → part a p ≡ Some b → length ws ≡ count b → EachCell b ws
+        → Holds Can f M mem o false a v → part a p ≡ Some b → EachFits Can (part_scalars a p b) (map f ws)
         → Stored (write_each M.write mem o (part_scalars a p b) (map f ws)) mem o a (put v p (rebuilt b ws))
     -- A copy scalar by scalar puts at once what the other part held before: of two objects, of one object, or of the same part.
     pub copied : (mem : M.Memory) (o : ℕ) (a : Tree S N) (v : Value W) (p : List ℕ) (b : Tree S N) (q : ℕ) (d : Bool) (e : Tree S N) (x : Value W) (k : List ℕ) (u : Value W)

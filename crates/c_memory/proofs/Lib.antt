@@ -7,3 +7,5 @@ pub mod Codecs
 pub mod Several
 pub mod Cells
 pub mod Values
+pub mod Initializers
+pub mod KindTables

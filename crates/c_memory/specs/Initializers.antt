@@ -71,3 +71,41 @@ module _ {S N V : Type 0} (nought : S → V) where
     initial_row End is = Nil
     initial_row (Field f a r) Done = Cons (zeros a) (zeros_row r)
     initial_row (Field f a r) (More i is) = Cons (initial a i) (initial_row r is)
+
+-- ---- initializers of a type
+
+-- n at most, each with P
+abbrev pub EachInit : {V : Type 0} → ℕ → (Init V → Type 0) → Inits V → Type 0
+EachInit n P Done = Unit {0}
+EachInit zero P (More i is) = ⊥
+EachInit (suc n) P (More i is) = P i × EachInit n P is
+
+-- where `Can` says which values a scalar can hold
+module _ {S N V : Type 0} (Can : S → V → Type 0) where
+  abbrev mutual
+    -- a value for a scalar, `{0}` or braces for others, and no more elements than there are places
+    pub IsInit : Tree S N → Init V → Type 0
+    IsInit (Leaf s) (One v) = Can s v
+    IsInit (Leaf s) Zero = ⊥
+    IsInit (Leaf s) (Braces is) = ⊥
+    IsInit (Many n a) (One v) = ⊥
+    IsInit (Many n a) Zero = Unit {0}
+    IsInit (Many n a) (Braces is) = EachInit n (IsInit a) is
+    IsInit (Struct k r) (One v) = ⊥
+    IsInit (Struct k r) Zero = Unit {0}
+    IsInit (Struct k r) (Braces is) = AreInits r is
+
+    pub AreInits : Row S N → Inits V → Type 0
+    AreInits r Done = Unit {0}
+    AreInits End (More i is) = ⊥
+    AreInits (Field f a r) (More i is) = IsInit a i × AreInits r is
+
+-- the initializer that has every element of a value
+abbrev mutual
+  pub spelled_out : {V : Type 0} → Value V → Init V
+  spelled_out (Cell v) = One v
+  spelled_out (Parts vs) = Braces (each_spelled_out vs)
+
+  pub each_spelled_out : {V : Type 0} → Values V → Inits V
+  each_spelled_out Nil = Done
+  each_spelled_out (Cons v vs) = More (spelled_out v) (each_spelled_out vs)

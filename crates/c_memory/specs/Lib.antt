@@ -12,3 +12,6 @@ pub mod Abstract
 pub mod Holds
 pub mod Memories
 pub mod ValueLaws
+pub mod KindTables
+pub mod Laws
+pub mod Examples

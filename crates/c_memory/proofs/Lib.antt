@@ -9,3 +9,4 @@ pub mod Cells
 pub mod Values
 pub mod Initializers
 pub mod KindTables
+pub mod Standing

@@ -9,7 +9,7 @@ use Rattle.c_memory.specs.Representations.{Representation}
 use Rattle.c_memory.specs.Faithful.{Faithful}
 use Rattle.c_memory.specs.Objects.{Object, Objects, lives, is_live}
 use Rattle.c_memory.specs.Seen.{scalar_in, seen, with_scalar, EachFits}
-use Rattle.c_memory.specs.Access.{Fault, Dead, BadAccess, ConstWrite, laid_out, known, unless, first_of, and_then, access_fault, write_fault, read_object, written, write_object, of_object, read, write}
+use Rattle.c_memory.specs.Access.{Fault, Dead, BadAccess, ConstWrite, laid_out, known, unless, first_of, and_then, access_fault, write_fault, read_object, written, write_object, of_object, read, refusal, refuses, write}
 use Rattle.c_memory.specs.Blocks.{fresh, create, leave, blank_bytes}
 use Rattle.c_memory.specs.Initializers.{initialized, initialize}
 use Rattle.c_memory.specs.Copies.{Apart}
@@ -46,6 +46,20 @@ module _ {S N V B : Type 0} (r : Representation S V B) where
       go : (w : Option (Object S N B)) → slice_get mem o ≡ w → of_object w (λ ob. and_then (write_object r ob x v) (λ n. Ok (slice_set mem o n))) ≡ Ok new → Wrote mem new o x v
       go None e k = absurd (cc)
       go (Some ob) e k = record { object = ob; is = e; new_is = done ob (write_fault r ob x) k }
+
+  refusals : (mem : Objects S N B) (o : ℕ) (x : ℕ × S) (v : V) (fault : Fault) → refuses r mem o x ≡ Some fault → write r mem o x v ≡ Err fault
+  refusals mem o x v fault h = go (slice_get mem o) h
+    where
+      go : (w : Option (Object S N B)) → refusal r w x ≡ Some fault → of_object w (λ ob. and_then (write_object r ob x v) (λ n. Ok (slice_set mem o n))) ≡ Err fault
+      go None e = (let same : Dead ≡ fault = cc in ap Err same)
+      go (Some ob) e = ap (λ f. and_then (unless f (Ok (written r ob x v))) (λ n. Ok (slice_set mem o n))) e
+
+  grants : (mem : Objects S N B) (o : ℕ) (x : ℕ × S) (v : V) → refuses r mem o x ≡ None → (new : Objects S N B) × (write r mem o x v ≡ Ok new)
+  grants mem o x v h = go (slice_get mem o) h
+    where
+      go : (w : Option (Object S N B)) → refusal r w x ≡ None → (new : Objects S N B) × (of_object w (λ ob. and_then (write_object r ob x v) (λ n. Ok (slice_set mem o n))) ≡ Ok new)
+      go None e = absurd (cc)
+      go (Some ob) e = (slice_set mem o (written r ob x v), ap (λ f. and_then (unless f (Ok (written r ob x v))) (λ n. Ok (slice_set mem o n))) e)
 
   pub numbered : (mem : Objects S N B) (o : ℕ) → is_live mem o ≡ true → o < length mem
   numbered mem o h = go (slice_get mem o) refl h
@@ -180,6 +194,8 @@ module _ {S N V B : Type 0} (r : Representation S V B) (Can : S → V → Type 0
     scalars_stay = scalars_stay;
     others_stay = others_stay;
     count_stays = count_stays;
+    refusals = refusals r;
+    grants = grants r;
     unlaid_writes = unlaid_writes;
     const_writes = const_writes;
     dead_writes = λ mem o x v h. dead_write r mem o (slice_get mem o) x v h;

@@ -182,8 +182,11 @@ module _ {S N V W : Type 0} (m : Metric S) (Can : S → V → Type 0) (f : W →
       law.reads (M.create mem a) (M.count mem) false a (offset m a p, s) (map none q.before) (map none q.after) None shows
       (record { left = q.before; right = q.after; is = q.is; number = sym (length-map q.before none) })
 
+  unchanged : (mem new : M.Memory) (o : ℕ) (c : Bool) (a : Tree S N) (v : Value W) → Holds Can f M mem o c a v → Same m M mem new o → Holds Can f M new o c a v
+  unchanged mem new o c a v h same = record { fits = h.fits; shows = same.shows c a (map show (cells v)) h.shows }
+
   block_left : (mem : M.Memory) (made_before o : ℕ) (c : Bool) (a : Tree S N) (v : Value W) → Holds Can f M mem o c a v → o < made_before → Holds Can f M (M.leave made_before mem) o c a v
-  block_left mem k o c a v h lt = record { fits = h.fits; shows = ((law.leaves mem k).others o lt).shows c a (map show (cells v)) h.shows }
+  block_left mem k o c a v h lt = unchanged mem (M.leave k mem) o c a v h ((law.leaves mem k).others o lt)
 
   pub lawful_values : LawfulValues m Can f M
   lawful_values = record {
@@ -196,5 +199,6 @@ module _ {S N V W : Type 0} (m : Metric S) (Can : S → V → Type 0) (f : W →
     first_values = first_values;
     no_values = no_values;
     first_write = first_write;
+    unchanged = unchanged;
     block_left = block_left;
   }

@@ -13,6 +13,8 @@ pub record Operations (S N V : Type 0) : Type 1 where
   pub count : Memory → ℕ
   pub live : Memory → ℕ → Bool
   pub read : Memory → ℕ → ℕ × S → Result V Fault
+  -- why a write may not be, whatever is to be written
+  pub refuses : Memory → ℕ → ℕ × S → Option Fault
   pub write : Memory → ℕ → ℕ × S → V → Result Memory Fault
   -- an object without values, and one with first values, const or not
   pub create : Memory → Tree S N → Memory
@@ -77,6 +79,8 @@ pub record Lawful {S N V : Type 0} (m : Metric S) (Can : S → V → Type 0) (M 
   pub scalars_stay : (mem new : M.Memory) (o : ℕ) (x : ℕ × S) (v : V) (y : ℕ × S) → M.write mem o x v ≡ Ok new → Apart m x y → M.read new o y ≡ M.read mem o y
   pub others_stay : (mem new : M.Memory) (o : ℕ) (x : ℕ × S) (v : V) (q : ℕ) → M.write mem o x v ≡ Ok new → q ≢ o → Same m M mem new q
   pub count_stays : (mem new : M.Memory) (o : ℕ) (x : ℕ × S) (v : V) → M.write mem o x v ≡ Ok new → M.count new ≡ M.count mem
+  pub refusals : (mem : M.Memory) (o : ℕ) (x : ℕ × S) (v : V) (fault : Fault) → M.refuses mem o x ≡ Some fault → M.write mem o x v ≡ Err fault
+  pub grants : (mem : M.Memory) (o : ℕ) (x : ℕ × S) (v : V) → M.refuses mem o x ≡ None → (new : M.Memory) × (M.write mem o x v ≡ Ok new)
   pub unlaid_writes : (mem : M.Memory) (o : ℕ) (c : Bool) (a : Tree S N) (us : List (Option V)) (x : ℕ × S) (v : V)
       → M.Shows mem o c a us → Unlaid m M a x → M.write mem o x v ≡ Err BadAccess
   pub const_writes : (mem : M.Memory) (o : ℕ) (a : Tree S N) (x : ℕ × S) (before after : List (Option V)) (u : Option V) (v : V)

@@ -63,5 +63,13 @@ module _ {S N V B : Type 0} (r : Representation S V B) where
   abbrev pub read : Objects S N B → ℕ → ℕ × S → Result V Fault
   read mem o x = of_object (slice_get mem o) (λ ob. read_object r ob x)
 
+  -- why the object may not be written: known before the value is, whose conversion may be undefined too
+  abbrev pub refusal : Option (Object S N B) → ℕ × S → Option Fault
+  refusal None x = Some Dead
+  refusal (Some ob) x = write_fault r ob x
+
+  abbrev pub refuses : Objects S N B → ℕ → ℕ × S → Option Fault
+  refuses mem o x = refusal (slice_get mem o) x
+
   abbrev pub write : Objects S N B → ℕ → ℕ × S → V → Result (Objects S N B) Fault
   write mem o x v = of_object (slice_get mem o) (λ ob. and_then (write_object r ob x v) (λ new. Ok (slice_set mem o new)))

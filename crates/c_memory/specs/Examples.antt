@@ -10,6 +10,7 @@ use Rattle.c_memory.specs.Representations.{Representation}
 use Rattle.c_memory.specs.Codecs.{Little, Big, ScalarTable, encode_number, decode_number, numbers}
 use Rattle.c_memory.specs.Objects.{Object, Objects, is_live}
 use Rattle.c_memory.specs.Access.{Fault, Dead, BadAccess, Indeterminate, ConstWrite, read, write, and_then}
+use Rattle.c_memory.specs.Standing.{refuses_cast}
 use Rattle.c_memory.specs.Blocks.{create, leave}
 use Rattle.c_memory.specs.Initializers.{initialize, initial, One, Zero, Braces, Done, More}
 use Rattle.c_memory.specs.Copies.{read_each, copy_each}
@@ -96,6 +97,21 @@ pub record AccessExamples : Type 0 where
   pub older_lives : read low (leave 1 two_bytes) 0 (0, U8) ≡ Ok (pos 5)
   pub never_made : read low two_bytes 2 (0, U8) ≡ Err Dead
   pub next_number : is_live (create low (leave 1 two_bytes) (Leaf U8)) 2 ≡ true
+
+abbrev pub is_long : Tree IntKind ℕ → Bool
+is_long (Leaf U32) = true
+is_long a = false
+
+-- pointers into an object with two pairs, as pointers to numbers of four bytes
+abbrev pub two_pairs : Memory
+two_pairs = create low [] (Many 2 pair)
+
+pub record CastExamples : Type 0 where
+  pub there : refuses_cast low.metric is_long two_pairs 0 12 ≡ None
+  pub other_type : refuses_cast low.metric is_long two_pairs 0 8 ≡ Some BadAccess
+  pub padding : refuses_cast low.metric is_long two_pairs 0 2 ≡ Some BadAccess
+  pub past : refuses_cast low.metric is_long two_pairs 0 20 ≡ Some BadAccess
+  pub ended : refuses_cast low.metric is_long (leave 0 two_pairs) 0 2 ≡ Some Dead
 
 -- missing elements are zero
 abbrev pub nought : IntKind → ℤ

@@ -1,11 +1,13 @@
 -- What holds of the memory of numbers, in both byte orders.
-use Rattle.std.specs.Prelude.{◌≡◌, ℕ, ℤ}
+use Rattle.std.specs.Prelude.{◌≡◌, ◌↔◌, ℕ, ℤ, Bool, true}
 use Rattle.iv_words.specs.declared.IntKind.{IntKind}
 use Rattle.type_trees.specs.Trees.{Tree}
+use Rattle.type_trees.specs.Layouts.{Metric}
 use Rattle.type_trees.specs.Values.{Value, Fits, HasForm}
 use Rattle.c_memory.specs.Faithful.{Faithful}
 use Rattle.c_memory.specs.Codecs.{ByteOrder, ScalarTable, SoundScalars, numbers, Held}
 use Rattle.c_memory.specs.Initializers.{Init, zeros, initial, IsInit, spelled_out}
+use Rattle.c_memory.specs.Standing.{stands, StandsAt}
 use Rattle.c_memory.specs.Abstract.{Lawful}
 use Rattle.c_memory.specs.ValueLaws.{LawfulValues}
 use Rattle.c_memory.specs.Memories.{memory_of_numbers}
@@ -19,6 +21,11 @@ module _ (S P : Type 0) where
 -- the kinds of whole numbers are such scalars, whatever the byte order and the alignments
 abbrev pub KindsAreSound : Type 0
 KindsAreSound = (order : ByteOrder) (most : ℕ) → SoundScalars (kind_table order most)
+
+module _ (S N : Type 0) where
+  -- a wanted part begins at an offset exactly where a path leads to one there
+  abbrev pub PartsStand : Type 0
+  PartsStand = (m : Metric S) (wanted : Tree S N → Bool) (o : ℕ) (a : Tree S N) → (stands m wanted o a 0 ≡ true) ↔ StandsAt m wanted o a 0
 
 module _ (S N P : Type 0) where
   abbrev pub MemoryIsLawful : Type 0

@@ -5,6 +5,7 @@ pub mod Codecs
 pub mod Objects
 pub mod Seen
 pub mod Access
+pub mod Standing
 pub mod Blocks
 pub mod Initializers
 pub mod Copies

@@ -4,7 +4,7 @@ use Rattle.c_memory.specs.Bytes.{Byte}
 use Rattle.c_memory.specs.Representations.{Representation}
 use Rattle.c_memory.specs.Codecs.{ScalarTable, numbers}
 use Rattle.c_memory.specs.Objects.{Objects, is_live}
-use Rattle.c_memory.specs.Access.{read, write}
+use Rattle.c_memory.specs.Access.{read, refuses, write}
 use Rattle.c_memory.specs.Blocks.{create, leave}
 use Rattle.c_memory.specs.Initializers.{initialize}
 use Rattle.c_memory.specs.Holds.{ShowsAt}
@@ -16,6 +16,7 @@ memory {S} {N} {V} {B} r = record {
   count = length;
   live = is_live;
   read = read r;
+  refuses = refuses r;
   write = write r;
   create = create r;
   initialize = initialize r;

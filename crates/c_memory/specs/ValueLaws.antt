@@ -48,5 +48,6 @@ module _ {S N V W : Type 0} (m : Metric S) (Can : S → V → Type 0) (f : W →
     pub first_values : (mem : M.Memory) (a : Tree S N) (c : Bool) (v : Value W) → FitsType a v → Holds Can f M (M.initialize mem a c (map f (cells v))) (M.count mem) c a v
     pub no_values : (mem : M.Memory) (a : Tree S N) (p : List ℕ) (s : S) → part a p ≡ Some (Leaf s) → M.read (M.create mem a) (M.count mem) (offset m a p, s) ≡ Err Indeterminate
     pub first_write : (mem : M.Memory) (o : ℕ) (s : S) (u : Option V) (w : W) → M.Shows mem o false (Leaf s) (u ∷ []) → Can s (f w) → Stored (M.write mem o (0, s) (f w)) mem o (Leaf s) (Cell w)
-    -- objects that were there before a block hold what they held at its end
+    -- what is the same object holds the same value; at a block's end those are that were there before it
+    pub unchanged : (mem new : M.Memory) (o : ℕ) (c : Bool) (a : Tree S N) (v : Value W) → Holds Can f M mem o c a v → Same m M mem new o → Holds Can f M new o c a v
     pub block_left : (mem : M.Memory) (made_before o : ℕ) (c : Bool) (a : Tree S N) (v : Value W) → Holds Can f M mem o c a v → o < made_before → Holds Can f M (M.leave made_before mem) o c a v

@@ -1,5 +1,5 @@
-ghost use Rattle.c_memory.specs.Laws.{NumbersAreFaithful, KindsAreSound, MemoryIsLawful, ValuesAreHeld, InitializersFit, ZerosFit, ElementsGiveTheValue};
-ghost use Rattle.c_memory.specs.Examples.{NumberExamples, PaddingExamples, AccessExamples, InitializerExamples};
+ghost use Rattle.c_memory.specs.Laws.{NumbersAreFaithful, KindsAreSound, PartsStand, MemoryIsLawful, ValuesAreHeld, InitializersFit, ZerosFit, ElementsGiveTheValue};
+ghost use Rattle.c_memory.specs.Examples.{NumberExamples, PaddingExamples, AccessExamples, CastExamples, InitializerExamples};
 
 /// A number that a scalar holds is read from the bytes that it was written to, in both byte orders, and bytes to which nothing
 /// was written have none.
@@ -10,6 +10,11 @@ pub fn numbers_are_faithful<S, P>()
 /// The exact-width kinds of whole numbers are such scalars.
 pub fn kinds_are_sound()
     ensures { KindsAreSound }
+{}
+
+/// A wanted part of a type begins at an offset exactly where a path leads to one there.
+pub fn parts_stand<S, N>()
+    ensures { PartsStand S N }
 {}
 
 /// The memory of objects and bytes keeps the laws by which the crates above know it.
@@ -44,7 +49,8 @@ pub fn padding_examples()
 /// Which accesses are undefined, and why.
 #[tactic(auto, unfolding(crate::specs::Codecs::stored, crate::specs::Codecs::signed_value, type_trees::specs::Multiples::up))]
 pub fn access_examples()
-    ensures { AccessExamples }
+    ensures accesses { AccessExamples }
+    ensures casts { CastExamples }
 {}
 
 /// What initializers give.

@@ -9,5 +9,5 @@ mod laws;
 
 pub use laws::{
     access_examples, initializer_examples, initializer_laws, kinds_are_sound, memory_is_lawful,
-    number_examples, numbers_are_faithful, padding_examples, values_are_held,
+    number_examples, numbers_are_faithful, padding_examples, parts_stand, values_are_held,
 };

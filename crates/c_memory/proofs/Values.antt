@@ -4,7 +4,7 @@ use Rattle.std.proofs.lemmas.List.{map-append, length-map}
 use Rattle.std.proofs.lemmas.Bool.{eqb-true, eqb-false}
 use Rattle.type_trees.specs.Trees.{Tree, Leaf, count, first, part}
 use Rattle.type_trees.specs.Layouts.{Metric, Ascends, size, lay, offset}
-use Rattle.type_trees.specs.Values.{Value, Cell, Fits, cells, at, put}
+use Rattle.type_trees.specs.Values.{Value, Cell, Parts, Fits, cells, at, put}
 use Rattle.type_trees.specs.Windows.{Window}
 use Rattle.type_trees.proofs.Layouts.{lay_ascends, length_lay}
 use Rattle.type_trees.proofs.Windows.{lay_window}
@@ -89,6 +89,10 @@ module _ {S N V W : Type 0} (m : Metric S) (Can : S → V → Type 0) (f : W →
 
   -- ---- one scalar
 
+  single_cell : (s : S) (v : Value W) → Fits {N = N} Fit (Leaf s) v → (x : W) × (cells v ≡ x ∷ [])
+  single_cell s (Cell x) h = (x, refl)
+  single_cell s (Parts vs) h = absurd h
+
   single : (mem : M.Memory) (o : ℕ) (x : ℕ × S) (v : V) → write_each M.write mem o (x ∷ []) (v ∷ []) ≡ M.write mem o x v
   single mem o x v = go (M.write mem o x v)
     where
@@ -116,6 +120,20 @@ module _ {S N V W : Type 0} (m : Metric S) (Can : S → V → Type 0) (f : W →
         others = λ q ne. law.others_stay mem w.new o (0, s) (f n) q w.is ne;
         count = law.count_stays mem w.new o (0, s) (f n) w.is;
       }
+
+  written_read : (mem new : M.Memory) (o : ℕ) (a : Tree S N) (v : Value W) (p : List ℕ) (s : S) (n : W)
+      → Holds Can f M mem o false a v → part a p ≡ Some (Leaf s) → Can s (f n) → M.write mem o (offset m a p, s) (f n) ≡ Ok new → M.read new o (offset m a p, s) ≡ Ok (f n)
+  written_read mem new o a v p s n h leads fits e =
+      let z = l mem o false a v h p (Leaf s) leads in
+      let q = w mem o false a v h p (Leaf s) leads in
+      let x : ℕ × S = (offset m a p, s) in
+      let place : At m M a x (map show z.before) (map show z.after) = record { left = q.before; right = q.after; is = q.is; number = number mem o false a v h p (Leaf s) leads } in
+      let one : (x : W) × (cells z.value ≡ x ∷ []) = single_cell s z.value z.fits in
+      let shows : M.Shows mem o false a (map show z.before ++ show one.0 ∷ map show z.after) =
+      subst (λ us. M.Shows mem o false a (map show z.before ++ (map show us ++ map show z.after))) one.1 (shown mem o false a v h p (Leaf s) leads) in
+      let done = law.writes mem o a x (map show z.before) (map show z.after) (show one.0) (f n) shows place fits in
+      let same : done.new ≡ new = (let k : Ok done.new ≡ Ok new = sym done.is ∙ e in cc) in
+      ap (λ y. M.read y o x) (sym same) ∙ law.reads done.new o false a x (map show z.before) (map show z.after) (Some (f n)) done.shows place
 
   -- ---- replies and copies
 
@@ -192,6 +210,7 @@ module _ {S N V W : Type 0} (m : Metric S) (Can : S → V → Type 0) (f : W →
   lawful_values = record {
     cell_read = cell_read;
     cell_written = cell_written;
+    written_read = written_read;
     part_read = part_read;
     part_written = part_written;
     reply_written = reply_written;

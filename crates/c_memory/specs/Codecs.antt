@@ -1,5 +1,6 @@
 -- Whole numbers in bytes (C99 6.2.6.2): their digits in base 256 in the target's byte order, the signed ones in two's complement.
-use Rattle.std.specs.Prelude.{◌≡◌, ℕ, zero, suc, ◌+◌, ◌*◌, ◌-◌, ◌/◌, ◌%◌, ◌^◌, ◌≤◌, ℤ, pos, negsuc, ◌-ℤ◌, List, [], ◌∷◌, map, reverse, Option, Some, None, option_map, Bool, true, IsTrue, nat_lt, if◌then◌else◌}
+use Rattle.std.specs.Prelude.{◌≡◌, ℕ, zero, suc, ◌+◌, ◌*◌, ◌-◌, ◌/◌, ◌%◌, ◌^◌, ◌≤◌, ℤ, pos, negsuc, ◌-ℤ◌}
+use Rattle.std.specs.Prelude.{List, [], ◌∷◌, map, reverse, Option, Some, None, option_map, Bool, true, IsTrue, nat_lt, if◌then◌else◌}
 use Rattle.iv_words.specs.Kinds.{in_range_of}
 use Rattle.type_trees.specs.Layouts.{Metric}
 use Rattle.c_memory.specs.Bytes.{Byte, Number, Unset, PointerByte}

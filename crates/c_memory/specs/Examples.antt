@@ -80,6 +80,18 @@ pub record PaddingExamples : Type 0 where
   pub neighbour : write low one_pair 0 (0, U8) (pos 8) ≡ Ok (pair_of (Number 8 ∷ Unset ∷ Unset ∷ Unset ∷ Number 9 ∷ Number 0 ∷ Number 0 ∷ Number 0 ∷ []) ∷ [])
   pub no_neighbour : write low one_pair 0 (4, U32) (pos 1) ≡ Ok (pair_of (Number 7 ∷ Unset ∷ Unset ∷ Unset ∷ Number 1 ∷ Number 0 ∷ Number 0 ∷ Number 0 ∷ []) ∷ [])
 
+-- the same two numbers where the highest byte is first and nothing is aligned to more than 2
+abbrev pub high : Representation IntKind ℤ (Byte ℕ)
+high = numbers high_first
+
+abbrev pub one_high : Memory
+one_high = initialize high [] pair false (pos 7 ∷ pos 258 ∷ [])
+
+pub record OtherTargetExamples : Type 0 where
+  pub bytes : one_high ≡ pair_of (Number 7 ∷ Unset ∷ Number 0 ∷ Number 0 ∷ Number 1 ∷ Number 2 ∷ []) ∷ []
+  pub member : read high one_high 0 (2, U32) ≡ Ok (pos 258)
+  pub no_member : read high one_high 0 (4, U32) ≡ Err BadAccess
+
 -- a const byte, and then another byte without a value
 abbrev pub two_bytes : Memory
 two_bytes = create low (initialize low [] (Leaf U8) true (pos 5 ∷ [])) (Leaf U8)

@@ -1,8 +1,8 @@
 -- What holds of the memory of numbers, in both byte orders.
-use Rattle.std.specs.Prelude.{◌≡◌, ◌↔◌, ℕ, ℤ, Bool, true}
+use Rattle.std.specs.Prelude.{◌≡◌, ◌↔◌, ℕ, ◌+◌, ◌≤◌, ℤ, List, ◌∷◌, ◌++◌, Bool, true}
 use Rattle.iv_words.specs.declared.IntKind.{IntKind}
 use Rattle.type_trees.specs.Trees.{Tree}
-use Rattle.type_trees.specs.Layouts.{Metric}
+use Rattle.type_trees.specs.Layouts.{Metric, lay}
 use Rattle.type_trees.specs.Values.{Value, Fits, HasForm}
 use Rattle.c_memory.specs.Faithful.{Faithful}
 use Rattle.c_memory.specs.Codecs.{ByteOrder, ScalarTable, SoundScalars, numbers, Held}
@@ -27,6 +27,11 @@ module _ (S N : Type 0) where
   abbrev pub PartsStand : Type 0
   PartsStand = (m : Metric S) (wanted : Tree S N → Bool) (o : ℕ) (a : Tree S N) → (stands m wanted o a 0 ≡ true) ↔ StandsAt m wanted o a 0
 
+  -- of two scalars of a layout the first ends before the second begins
+  abbrev pub ScalarsApart : Type 0
+  ScalarsApart =
+      (m : Metric S) (a : Tree S N) (x y : ℕ × S) (left mid right : List (ℕ × S)) → lay m a 0 ≡ left ++ x ∷ (mid ++ y ∷ right) → x.0 + m.width x.1 ≤ y.0
+
 module _ (S N P : Type 0) where
   abbrev pub MemoryIsLawful : Type 0
   MemoryIsLawful = (t : ScalarTable S) → SoundScalars t → Lawful t.metric (Held t) (memory_of_numbers {S = S} {N = N} P t)
@@ -39,7 +44,8 @@ module _ (S N P W : Type 0) where
 module _ (S N : Type 0) where
   -- an initializer of a type gives a value of it, where each scalar can hold its zero
   abbrev pub InitializersFit : Type 0
-  InitializersFit = (t : ScalarTable S) (nought : S → ℤ) → ((s : S) → Held t s (nought s)) → (a : Tree S N) (i : Init ℤ) → IsInit (Held t) a i → Fits (Held t) a (initial nought a i)
+  InitializersFit =
+      (t : ScalarTable S) (nought : S → ℤ) → ((s : S) → Held t s (nought s)) → (a : Tree S N) (i : Init ℤ) → IsInit (Held t) a i → Fits (Held t) a (initial nought a i)
 
   abbrev pub ZerosFit : Type 0
   ZerosFit = (t : ScalarTable S) (nought : S → ℤ) → ((s : S) → Held t s (nought s)) → (a : Tree S N) → Fits (Held t) a (zeros nought a)

@@ -1,5 +1,5 @@
-ghost use Rattle.c_memory.specs.Laws.{NumbersAreFaithful, KindsAreSound, PartsStand, MemoryIsLawful, ValuesAreHeld, InitializersFit, ZerosFit, ElementsGiveTheValue};
-ghost use Rattle.c_memory.specs.Examples.{NumberExamples, PaddingExamples, AccessExamples, CastExamples, InitializerExamples};
+ghost use Rattle.c_memory.specs.Laws.{NumbersAreFaithful, KindsAreSound, PartsStand, ScalarsApart, MemoryIsLawful, ValuesAreHeld, InitializersFit, ZerosFit, ElementsGiveTheValue};
+ghost use Rattle.c_memory.specs.Examples.{NumberExamples, PaddingExamples, OtherTargetExamples, AccessExamples, CastExamples, InitializerExamples};
 
 /// A number that a scalar holds is read from the bytes that it was written to, in both byte orders, and bytes to which nothing
 /// was written have none.
@@ -12,9 +12,10 @@ pub fn kinds_are_sound()
     ensures { KindsAreSound }
 {}
 
-/// A wanted part of a type begins at an offset exactly where a path leads to one there.
+/// A wanted part of a type begins at an offset exactly where a path leads to one there, and no two scalars overlap.
 pub fn parts_stand<S, N>()
-    ensures { PartsStand S N }
+    ensures exactly { PartsStand S N }
+    ensures apart { ScalarsApart S N }
 {}
 
 /// The memory of objects and bytes keeps the laws by which the crates above know it.
@@ -43,7 +44,8 @@ pub fn number_examples()
 /// What lies between the members of a struct.
 #[tactic(auto, unfolding(crate::specs::Codecs::stored, crate::specs::Codecs::signed_value, type_trees::specs::Multiples::up))]
 pub fn padding_examples()
-    ensures { PaddingExamples }
+    ensures padding { PaddingExamples }
+    ensures other_target { OtherTargetExamples }
 {}
 
 /// Which accesses are undefined, and why.

@@ -27,6 +27,7 @@ module _ {S N V B : Type 0} (r : Representation S V B) where
   same_of mem new q e = record {
     live = ap lives e;
     reads = λ x. ap (λ w. of_object w (λ ob. read_object r ob x)) e;
+    refuses = λ x. ap (λ w. refusal r w x) e;
     shows = λ c a us h. record { object = h.object; is = e ∙ h.is; constant = h.constant; shows = h.shows };
   }
 

@@ -39,12 +39,13 @@ module _ {S : Type 0} (m : Metric S) where
 
 module _ {S N V : Type 0} (m : Metric S) (Can : S → V → Type 0) (M : Operations S N V) (law : Lawful m Can M) where
   pub same_refl : (mem : M.Memory) (q : ℕ) → Same m M mem mem q
-  same_refl mem q = record { live = refl; reads = λ x. refl; shows = λ c a us h. h }
+  same_refl mem q = record { live = refl; reads = λ x. refl; refuses = λ x. refl; shows = λ c a us h. h }
 
   pub same_trans : (mem mid new : M.Memory) (q : ℕ) → Same m M mem mid q → Same m M mid new q → Same m M mem new q
   same_trans mem mid new q h k = record {
     live = k.live ∙ h.live;
     reads = λ x. k.reads x ∙ h.reads x;
+    refuses = λ x. k.refuses x ∙ h.refuses x;
     shows = λ c a us e. k.shows c a us (h.shows c a us e);
   }
 

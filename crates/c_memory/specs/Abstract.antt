@@ -29,6 +29,7 @@ module _ {S N V : Type 0} (m : Metric S) (M : Operations S N V) where
   pub record Same (mem new : M.Memory) (q : ℕ) : Type 0 where
     pub live : M.live new q ≡ M.live mem q
     pub reads : (x : ℕ × S) → M.read new q x ≡ M.read mem q x
+    pub refuses : (x : ℕ × S) → M.refuses new q x ≡ M.refuses mem q x
     pub shows : (c : Bool) (a : Tree S N) (us : List (Option V)) → M.Shows mem q c a us → M.Shows new q c a us
 
   -- scalar x has the value u in an object that shows `before`, u and `after`

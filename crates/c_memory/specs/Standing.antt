@@ -1,4 +1,4 @@
--- Whether a part of a wanted type begins at an offset, which a pointer that is cast to that type must lead to.
+-- Whether a part of a wanted type begins at an offset: where a pointer that is cast to that type must lead (C99 6.3.2.3 asks less).
 use Rattle.std.specs.Prelude.{◌≡◌, ℕ, zero, suc, ◌+◌, ◌==◌, List, Option, Some, None, Bool, true, false, ◌&&◌, ◌||◌, if◌then◌else◌, slice_get}
 use Rattle.type_trees.specs.Trees.{Tree, Leaf, Many, Struct, Row, End, Field, part}
 use Rattle.type_trees.specs.Multiples.{up}

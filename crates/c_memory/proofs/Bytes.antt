@@ -1,7 +1,7 @@
 -- A read of a scalar gives what was last written to it, and a write changes no scalar before or behind it.
-use Rattle.std.proofs.Common.{◌≡◌, ℕ, zero, suc, ◌+◌, ◌-◌, ◌≤◌, List, [], ◌∷◌, length, take, drop, map, replicate, Option, Some, None, refl, ◌∙◌, ap, arith}
+use Rattle.std.proofs.Common.{◌≡◌, ℕ, zero, suc, ◌+◌, ◌-◌, ◌≤◌, List, [], ◌∷◌, length, take, drop, map, replicate, Some, None, refl, ◌∙◌, ap, arith}
 use Rattle.std.proofs.lemmas.List.{take-replicate, drop-replicate}
-use Rattle.type_trees.specs.Layouts.{Metric, Ascends}
+use Rattle.type_trees.specs.Layouts.{Ascends}
 use Rattle.type_trees.proofs.Layouts.{reaches}
 use Rattle.c_memory.specs.Representations.{Representation}
 use Rattle.c_memory.specs.Faithful.{Faithful}

@@ -1,12 +1,12 @@
 -- Numbers in bytes are faithful, in both byte orders.
-use Rattle.std.proofs.Common.{◌≡◌, ℕ, zero, suc, ◌+◌, ◌*◌, ◌-◌, ◌/◌, ◌^◌, ◌<◌, ◌≤◌, List, [], ◌∷◌, length, map, replicate, Some, None, Bool, true, false, IsTrue, ℤ, pos, negsuc, ◌-ℤ◌, refl, sym, ◌∙◌, ap, subst, arith, if◌then◌else◌, option_map}
+use Rattle.std.proofs.Common.{◌≡◌, ℕ, zero, suc, ◌+◌, ◌*◌, ◌-◌, ◌/◌, ◌^◌, ◌<◌, ◌≤◌, List, [], ◌∷◌, length, map, replicate, Some, None, Bool, true, false, IsTrue, ℤ, pos, negsuc, ◌-ℤ◌, refl, sym, ◌∙◌, ap, arith, if◌then◌else◌, option_map}
 use Rattle.std.proofs.Math.Nat.{pow-suc}
 use Rattle.std.proofs.lemmas.Nat.{pow-add, pow_pos}
 use Rattle.std.proofs.lemmas.Int.{ints}
 use Rattle.std.proofs.lemmas.Bool.{lt-ltb, le-ltb}
 use Rattle.std.proofs.lemmas.List.{length-reverse, length-map, reverse-reverse}
 use Rattle.iv_words.specs.Kinds.{in_range_of}
-use Rattle.c_memory.specs.Bytes.{Byte, Number, Unset}
+use Rattle.c_memory.specs.Bytes.{Number, Unset}
 use Rattle.c_memory.specs.Faithful.{Faithful}
 use Rattle.c_memory.specs.Codecs.{ByteOrder, Little, Big, ScalarTable, SoundScalars, digits, digits_value, arranged, stored, signed_value, number, all_numbers, encode_number, decode_number, numbers, Held}
 

@@ -1,7 +1,7 @@
 -- The kinds of whole numbers are scalars of a byte at least, told apart, and hold numbers of their bits and sign.
-use Rattle.std.proofs.Common.{◌≡◌, ℕ, ◌*◌, ◌≤◌, ℤ, true, IsTrue, refl, sym, ap, subst, arith}
-use denote.Enum.Bare.{same_true, true_same}
-use Rattle.iv_words.specs.Kinds.{width, kind_bytes, is_signed, in_range, in_range_of}
+use Rattle.std.proofs.Common.{◌≡◌, ℕ, ◌*◌, ◌≤◌, true, IsTrue, refl, subst, arith}
+use denote.Enum.Bare.{same_true}
+use Rattle.iv_words.specs.Kinds.{width, kind_bytes, is_signed, in_range_of}
 use Rattle.iv_words.specs.declared.IntKind.{IntKind}
 use Rattle.iv_words.specs.declared.IntKind.TheVariants.{U8, U16, U32, U64, I8, I16, I32, I64}
 use Rattle.iv_words.specs.contracts.kind.IntKind as kinds

@@ -1,5 +1,5 @@
 -- The memory of objects and bytes keeps the laws, whatever faithful representation its scalars have.
-use Rattle.std.proofs.Common.{◌≡◌, ◌≢◌, ℕ, suc, ◌+◌, ◌<◌, ◌≤◌, List, [], ◌∷◌, ◌++◌, length, map, Option, Some, None, Result, Ok, Err, Bool, true, false, refl, sym, ◌∙◌, ap, arith, ⊎_elim, if◌then◌else◌, length-append}
+use Rattle.std.proofs.Common.{◌≡◌, ◌≢◌, ℕ, ◌+◌, ◌<◌, List, [], ◌∷◌, ◌++◌, length, map, Option, Some, None, Result, Ok, Err, Bool, true, false, refl, sym, ◌∙◌, ap, arith, ⊎_elim, if◌then◌else◌, length-append}
 use Rattle.std.specs.Prelude.{slice_get, slice_set}
 use Rattle.std.proofs.lemmas.List.{length-map, length-set, length-replicate}
 use Rattle.type_trees.specs.Trees.{Tree}
@@ -8,7 +8,7 @@ use Rattle.type_trees.proofs.Layouts.{lay_ascends}
 use Rattle.c_memory.specs.Representations.{Representation}
 use Rattle.c_memory.specs.Faithful.{Faithful}
 use Rattle.c_memory.specs.Objects.{Object, Objects, lives, is_live}
-use Rattle.c_memory.specs.Seen.{scalar_in, seen, with_scalar, EachFits}
+use Rattle.c_memory.specs.Seen.{scalar_in, seen, EachFits}
 use Rattle.c_memory.specs.Access.{Fault, Dead, BadAccess, ConstWrite, laid_out, known, unless, first_of, and_then, access_fault, write_fault, read_object, written, write_object, of_object, read, refusal, refuses, write}
 use Rattle.c_memory.specs.Blocks.{fresh, create, leave, blank_bytes}
 use Rattle.c_memory.specs.Initializers.{initialized, initialize}
@@ -175,8 +175,7 @@ module _ {S N V B : Type 0} (r : Representation S V B) (Can : S → V → Type 0
   alone : (mem : Objects S N B) (o : ℕ) (c d : Bool) (a b : Tree S N) (us ws : List (Option V)) → ShowsAt r mem o c a us → ShowsAt r mem o d b ws → (c ≡ d) × (a ≡ b) × (us ≡ ws)
   alone mem o c d a b us ws h k =
       let same : h.object ≡ k.object = (let e : Some h.object ≡ Some k.object = sym h.is ∙ k.is in cc) in
-      let types : a ≡ b = sym h.shows.type ∙ ap (λ ob. ob.type) same ∙ k.shows.type in
-      (
+      let types : a ≡ b = sym h.shows.type ∙ ap (λ ob. ob.type) same ∙ k.shows.type in (
         sym h.constant ∙ ap (λ ob. ob.constant) same ∙ k.constant,
         types,
         sym h.shows.same ∙ ap (λ ob. seen r ob.bytes (lay r.metric a 0)) same ∙ ap (λ c. seen r k.object.bytes (lay r.metric c 0)) types ∙ k.shows.same,

@@ -1,12 +1,12 @@
 -- Several scalars of an object in a row, over the laws of memory alone: what they show is read, what is written they show, and a copy
 -- writes what was there at its start.
-use Rattle.std.proofs.Common.{◌≡◌, ◌≢◌, ℕ, suc, ◌+◌, List, [], ◌∷◌, ◌++◌, length, map, Option, Some, Result, Ok, Err, Bool, false, ◌≤◌, refl, sym, ◌∙◌, ap, subst, arith, ◌⊎◌, ⊎_elim, inl, inr, append_assoc, length-append}
+use Rattle.std.proofs.Common.{◌≡◌, ◌≢◌, ℕ, ◌+◌, List, [], ◌∷◌, ◌++◌, length, map, Option, Some, Result, Ok, Err, Bool, false, ◌≤◌, refl, sym, ◌∙◌, ap, subst, arith, ◌⊎◌, ⊎_elim, inl, inr, append_assoc, length-append}
 use Rattle.type_trees.specs.Trees.{Tree}
 use Rattle.type_trees.specs.Layouts.{Metric, Ascends, lay}
 use Rattle.type_trees.proofs.Layouts.{reaches}
 use Rattle.c_memory.specs.Seen.{EachFits}
 use Rattle.c_memory.specs.Access.{Fault, and_then}
-use Rattle.c_memory.specs.Copies.{read_each, write_each, copy_each, Apart, ApartFromAll, Clear}
+use Rattle.c_memory.specs.Copies.{read_each, write_each, copy_each, ApartFromAll, Clear}
 use Rattle.c_memory.specs.Abstract.{Operations, Same, Lawful}
 
 -- ---- where two rows stand
@@ -91,11 +91,10 @@ module _ {S N V : Type 0} (m : Metric S) (Can : S → V → Type 0) (M : Operati
   each_read mem o c a [] (v ∷ vs) left right before after h is n l = absurd (omega arith)
   each_read mem o c a (x ∷ xs) [] left right before after h is n l = absurd (omega arith)
   each_read mem o c a (x ∷ xs) (v ∷ vs) left right before after h is n l =
-      let number : length (left ++ x ∷ []) ≡ length (before ++ Some v ∷ []) = omega (arith, n, length-append left (x ∷ []), length-append before (Some v ∷ [])) in
-      (
+      let number : length (left ++ x ∷ []) ≡ length (before ++ Some v ∷ []) = omega (arith, n, length-append left (x ∷ []), length-append before (Some v ∷ [])) in (
         law.reads mem o c a x before (map Some vs ++ after) (Some v) h (record { left = left; right = xs ++ right; is = is; number = n }),
         each_read mem o c a xs vs (left ++ x ∷ []) right (before ++ Some v ∷ []) after (subst (λ us. M.Shows mem o c a us) (sym (append_assoc before (Some v ∷ []) (map Some vs ++ after))) h)
-        (is ∙ sym (append_assoc left (x ∷ []) (xs ++ right))) number (omega (arith, l)),
+            (is ∙ sym (append_assoc left (x ∷ []) (xs ++ right))) number (omega (arith, l)),
       )
 
   pub all_read : (mem : M.Memory) (o : ℕ) (xs : List (ℕ × S)) (vs : List V) → EachRead mem o xs vs → read_each M.read mem o xs ≡ Ok vs

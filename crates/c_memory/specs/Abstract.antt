@@ -1,5 +1,5 @@
 -- Memory without bytes: its operations, and the laws by which alone the layers above know it.
-use Rattle.std.specs.Prelude.{◌≡◌, ◌≢◌, ℕ, suc, ◌<◌, ◌≤◌, List, [], ◌∷◌, ◌++◌, length, map, Option, Some, None, Result, Ok, Err, Bool, true, false}
+use Rattle.std.specs.Prelude.{◌≡◌, ◌≢◌, ℕ, suc, ◌<◌, ◌≤◌, List, ◌∷◌, ◌++◌, length, map, Option, Some, None, Result, Ok, Err, Bool, true, false}
 use Rattle.type_trees.specs.Trees.{Tree}
 use Rattle.type_trees.specs.Layouts.{Metric, lay}
 use Rattle.c_memory.specs.Seen.{EachFits}

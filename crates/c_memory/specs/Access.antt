@@ -1,6 +1,6 @@
 -- What a read and a write of a scalar do, and for which of four reasons they are undefined, in the order of the reasons: the object has
 -- ended (C99 6.2.4), no such scalar is laid out there (6.5), the scalar is indeterminate (6.7.8), the object is const (6.7.3).
-use Rattle.std.specs.Prelude.{ℕ, ◌==◌, List, [], ◌∷◌, Option, Some, None, Result, Ok, Err, Bool, true, false, ◌&&◌, ◌||◌, if◌then◌else◌, slice_get, slice_set}
+use Rattle.std.specs.Prelude.{ℕ, ◌==◌, List, [], ◌∷◌, Option, Some, None, Result, Ok, Err, Bool, false, ◌&&◌, ◌||◌, if◌then◌else◌, slice_get, slice_set}
 use Rattle.type_trees.specs.Layouts.{lay}
 use Rattle.c_memory.specs.Representations.{Representation}
 use Rattle.c_memory.specs.Objects.{Object, Objects}

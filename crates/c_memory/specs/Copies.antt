@@ -1,5 +1,5 @@
 -- Several scalars, one after another in order of offset: what a part shows, values written to it, and a copy from part to part.
-use Rattle.std.specs.Prelude.{ℕ, zero, suc, ◌+◌, ◌≤◌, ◌⊎◌, List, [], ◌∷◌, take, drop, Result, Ok, Err}
+use Rattle.std.specs.Prelude.{ℕ, zero, suc, ◌+◌, ◌≤◌, ◌⊎◌, List, [], ◌∷◌, take, drop, Result, Ok}
 use Rattle.type_trees.specs.Trees.{Tree, Leaf, Many, Struct, Row, End, Field, count}
 use Rattle.type_trees.specs.Layouts.{Metric}
 use Rattle.type_trees.specs.Values.{Value, Cell, Parts, Values, Nil, Cons}

@@ -1,5 +1,5 @@
 -- Small objects and exactly what their bytes are and their accesses give: examples that hold the definitions fast.
-use Rattle.std.specs.Prelude.{◌≡◌, ℕ, ℤ, pos, negsuc, List, [], ◌∷◌, Option, Some, None, Result, Ok, Err, Bool, true, false}
+use Rattle.std.specs.Prelude.{◌≡◌, ℕ, ℤ, pos, negsuc, List, [], ◌∷◌, Option, Some, None, Ok, Err, Bool, true, false}
 use Rattle.iv_words.specs.declared.IntKind.{IntKind}
 use Rattle.iv_words.specs.declared.IntKind.TheVariants.{U8, U16, U32, I16, I32}
 use Rattle.type_trees.specs.Trees.{Tree, Leaf, Many, Struct, End, Field}
@@ -9,7 +9,7 @@ use Rattle.c_memory.specs.Bytes.{Byte, Number, Unset, PointerByte}
 use Rattle.c_memory.specs.Representations.{Representation}
 use Rattle.c_memory.specs.Codecs.{Little, Big, ScalarTable, encode_number, decode_number, numbers}
 use Rattle.c_memory.specs.Objects.{Object, Objects, is_live}
-use Rattle.c_memory.specs.Access.{Fault, Dead, BadAccess, Indeterminate, ConstWrite, read, write, and_then}
+use Rattle.c_memory.specs.Access.{Dead, BadAccess, Indeterminate, ConstWrite, read, write, and_then}
 use Rattle.c_memory.specs.Standing.{refuses_cast}
 use Rattle.c_memory.specs.Blocks.{create, leave}
 use Rattle.c_memory.specs.Initializers.{initialize, initial, One, Zero, Braces, Done, More}

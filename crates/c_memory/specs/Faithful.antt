@@ -1,5 +1,5 @@
 -- What must hold of a representation, and all that is used of it: what was written is read, and what was not is indeterminate.
-use Rattle.std.specs.Prelude.{◌≡◌, List, length, replicate, Some, None, true}
+use Rattle.std.specs.Prelude.{◌≡◌, length, replicate, Some, None, true}
 use Rattle.c_memory.specs.Representations.{Representation}
 
 -- where `Ok` says which values a scalar can hold

@@ -1,7 +1,7 @@
 -- What an object shows, and when it holds a value: it lives, has the type and its size, and its scalars in order are the value's cells.
 use Rattle.std.specs.Prelude.{◌≡◌, ℕ, List, length, map, Option, Some, Bool, true, slice_get}
 use Rattle.type_trees.specs.Trees.{Tree}
-use Rattle.type_trees.specs.Layouts.{Metric, lay, size}
+use Rattle.type_trees.specs.Layouts.{lay, size}
 use Rattle.type_trees.specs.Values.{Value, Fits, cells}
 use Rattle.c_memory.specs.Representations.{Representation}
 use Rattle.c_memory.specs.Objects.{Object, Objects}

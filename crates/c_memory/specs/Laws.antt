@@ -1,6 +1,5 @@
 -- What holds of the memory of numbers, in both byte orders.
 use Rattle.std.specs.Prelude.{◌≡◌, ◌↔◌, ℕ, ◌+◌, ◌≤◌, ℤ, List, ◌∷◌, ◌++◌, Bool, true}
-use Rattle.iv_words.specs.declared.IntKind.{IntKind}
 use Rattle.type_trees.specs.Trees.{Tree}
 use Rattle.type_trees.specs.Layouts.{Metric, lay}
 use Rattle.type_trees.specs.Values.{Value, Fits, HasForm}

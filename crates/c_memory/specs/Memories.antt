@@ -1,6 +1,5 @@
 -- The memory of objects and bytes, as the operations that the layers above know.
-use Rattle.std.specs.Prelude.{ℕ, ℤ, length}
-use Rattle.c_memory.specs.Bytes.{Byte}
+use Rattle.std.specs.Prelude.{ℤ, length}
 use Rattle.c_memory.specs.Representations.{Representation}
 use Rattle.c_memory.specs.Codecs.{ScalarTable, numbers}
 use Rattle.c_memory.specs.Objects.{Objects, is_live}

@@ -1,6 +1,6 @@
 -- What the memory is told of scalars: their sizes and alignments, how a value is represented in bytes (C99 6.2.6), and which two are of
 -- one type. Everything above these definitions and `Faithful` speaks of any such representation and opens no byte.
-use Rattle.std.specs.Prelude.{ℕ, List, Option, Bool}
+use Rattle.std.specs.Prelude.{List, Option, Bool}
 use Rattle.type_trees.specs.Layouts.{Metric}
 
 -- over scalars S, values V and bytes B

@@ -12,7 +12,7 @@ use Rattle.step_semantics.specs.Outcomes.{OutcomeLaws}
 use Rattle.step_semantics.specs.Safe.{NeverUndefined}
 use Rattle.first_form.specs.declared.FirstModule.{FirstModule}
 use Rattle.first_form.specs.Valid.{Valid}
-use Rattle.core_meaning.specs.Source.{run_src, exports_of}
+use Rattle.first_meaning.specs.Source.{run_src, exports_of}
 
 abbrev pub RunsObeyTheirLaws : Type 0
 RunsObeyTheirLaws = (m : FirstModule) (script : Script) → OutcomeLaws (run_src m script)

@@ -1,4 +1,4 @@
-ghost use Rattle.core_meaning.specs.Laws.{CallsTakeSteps, RunsAreDefined, RunsObeyTheirLaws};
+ghost use Rattle.first_meaning.specs.Laws.{CallsTakeSteps, RunsAreDefined, RunsObeyTheirLaws};
 
 /// A run's events only grow with its steps, and its end stays.
 pub fn runs_obey_their_laws()

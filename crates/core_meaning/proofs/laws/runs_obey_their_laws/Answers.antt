@@ -1,5 +1,0 @@
-use Rattle.core_meaning.proofs.Source.{runs_obey}
-use Rattle.core_meaning.proofs.laws.runs_obey_their_laws.Goals as goal
-
-pub returns : goal.returns
-returns c = runs_obey

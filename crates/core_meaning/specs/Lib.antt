@@ -1,0 +1,12 @@
+pub mod Values
+pub mod Areas
+pub mod State
+pub mod Checks
+pub mod Answers
+pub mod Expressions
+pub mod Initializers
+pub mod Contracts
+pub mod Imports
+pub mod Calls
+pub mod Statements
+pub mod Run

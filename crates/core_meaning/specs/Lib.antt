@@ -5,8 +5,9 @@ pub mod Checks
 pub mod Answers
 pub mod Expressions
 pub mod Initializers
-pub mod Contracts
+pub mod Conditions
 pub mod Imports
 pub mod Calls
 pub mod Statements
 pub mod Run
+pub mod Laws

@@ -12,7 +12,7 @@ use Rattle.core_tree.specs.Syntax.{ModuleCore, ProcCore}
 use Rattle.core_meaning.specs.Values.{Value, Num, Ref}
 use Rattle.core_meaning.specs.State.{State, seen, enter, back, first_state}
 use Rattle.core_meaning.specs.Checks.{lost}
-use Rattle.core_meaning.specs.Contracts.{required, Ensured, ensured}
+use Rattle.core_meaning.specs.Conditions.{required, Ensured, ensured}
 use Rattle.core_meaning.specs.Calls.{Calls, no_procedures}
 use Rattle.core_meaning.specs.Statements.{Flow, exec_all}
 

@@ -13,7 +13,7 @@ use Rattle.core_meaning.specs.State.{State, with_name, with_area, holding, leave
 use Rattle.core_meaning.specs.Checks.{on_number, on_reference, on_some}
 use Rattle.core_meaning.specs.Expressions.{choice, eval}
 use Rattle.core_meaning.specs.Initializers.{first_value}
-use Rattle.core_meaning.specs.Contracts.{Ensured, tested}
+use Rattle.core_meaning.specs.Conditions.{Ensured, tested}
 use Rattle.core_meaning.specs.Calls.{Calls, call}
 
 -- a statement falls through, breaks off its loop, or ends its procedure with the result that it has

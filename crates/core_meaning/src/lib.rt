@@ -1,2 +1,9 @@
 //! What a resolved module does: the meaning of every form of the source, step for step, and the laws of its runs.
+//!
+//! The meaning is a definition and no code: `run_src` in `specs/Run.antt`, over a state (`State`, `Areas`) and parts of runs that
+//! count their steps. The functions here do nothing: each carries a theorem, which a caller has after the call.
 #![tactic(auto)]
+
+mod laws;
+
+pub use laws::runs_obey_their_laws;

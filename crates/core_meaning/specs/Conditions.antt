@@ -16,12 +16,18 @@ abbrev pub tested_all : ModuleCore → Option Value → List ContractCore → Pa
 tested_all core outcome [] = give tt
 tested_all core outcome (c ∷ cs) = bind (tested core outcome c.cond c.check) (λ t. tested_all core outcome cs)
 
+abbrev pub requires_of : ProcCore → List ContractCore
+requires_of p = filter (λ c. c.before) p.contracts
+
+abbrev pub ensures_of : ProcCore → List ContractCore
+ensures_of p = filter (λ c. not c.before) p.contracts
+
 abbrev pub required : ModuleCore → ProcCore → Part State (Unit {0})
-required core p = tested_all core None (filter (λ c. c.before) p.contracts)
+required core p = tested_all core None (requires_of p)
 
 -- with the result that the procedure has, if it has one
 abbrev pub Ensured : Type 0
 Ensured = Option Value → Part State (Unit {0})
 
 abbrev pub ensured : ModuleCore → ProcCore → Ensured
-ensured core p outcome = tested_all core outcome (filter (λ c. not c.before) p.contracts)
+ensured core p outcome = tested_all core outcome (ensures_of p)

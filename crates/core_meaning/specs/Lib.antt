@@ -11,3 +11,5 @@ pub mod Calls
 pub mod Statements
 pub mod Run
 pub mod Laws
+pub mod ExampleForms
+pub mod OperatorExamples

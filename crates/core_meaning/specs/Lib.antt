@@ -13,3 +13,4 @@ pub mod Run
 pub mod Laws
 pub mod ExampleForms
 pub mod OperatorExamples
+pub mod StatementExamples

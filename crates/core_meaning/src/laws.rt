@@ -1,5 +1,6 @@
 ghost use Rattle.core_meaning.specs.Laws.{RunsObeyTheirLaws};
 ghost use Rattle.core_meaning.specs.OperatorExamples.{AndExamples, ProductExamples, QuotientExamples, ShiftExamples, SumExamples};
+ghost use Rattle.core_meaning.specs.StatementExamples.{AssertExamples, ChoiceExamples, ContractExamples, LoopExamples, TurnExamples};
 
 /// A run's events only grow with its steps, and its end stays.
 pub fn runs_obey_their_laws()
@@ -13,4 +14,17 @@ pub fn operator_examples()
     ensures shifts { ShiftExamples }
     ensures products { ProductExamples }
     ensures and { AndExamples }
+{}
+
+/// The turns of loops, in their order and with their steps, and what leaves a loop.
+pub fn loop_examples()
+    ensures counted { LoopExamples }
+    ensures turns { TurnExamples }
+{}
+
+/// Which way a choice goes, and when a condition stops the run.
+pub fn condition_examples()
+    ensures choices { ChoiceExamples }
+    ensures asserts { AssertExamples }
+    ensures contracts { ContractExamples }
 {}

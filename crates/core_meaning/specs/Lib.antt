@@ -14,3 +14,5 @@ pub mod Laws
 pub mod ExampleForms
 pub mod OperatorExamples
 pub mod StatementExamples
+pub mod AreaExamples
+pub mod ImportExamples

@@ -1,3 +1,5 @@
+ghost use Rattle.core_meaning.specs.AreaExamples.{CopyExamples, EndExamples, ReferenceExamples};
+ghost use Rattle.core_meaning.specs.ImportExamples.{CellExamples, ReplyExamples, TickExamples};
 ghost use Rattle.core_meaning.specs.Laws.{RunsObeyTheirLaws};
 ghost use Rattle.core_meaning.specs.OperatorExamples.{AndExamples, ProductExamples, QuotientExamples, ShiftExamples, SumExamples};
 ghost use Rattle.core_meaning.specs.StatementExamples.{AssertExamples, ChoiceExamples, ContractExamples, LoopExamples, TurnExamples};
@@ -27,4 +29,18 @@ pub fn condition_examples()
     ensures choices { ChoiceExamples }
     ensures asserts { AssertExamples }
     ensures contracts { ContractExamples }
+{}
+
+/// References, copies, and what becomes of areas at the end of their blocks and calls.
+pub fn area_examples()
+    ensures references { ReferenceExamples }
+    ensures copies { CopyExamples }
+    ensures ends { EndExamples }
+{}
+
+/// What the outside sees of the calls of imports, and what its replies do.
+pub fn import_examples()
+    ensures ticks { TickExamples }
+    ensures replies { ReplyExamples }
+    ensures cells { CellExamples }
 {}

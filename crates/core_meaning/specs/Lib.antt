@@ -16,3 +16,4 @@ pub mod OperatorExamples
 pub mod StatementExamples
 pub mod AreaExamples
 pub mod ImportExamples
+pub mod DriverExamples

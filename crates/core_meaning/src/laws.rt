@@ -1,4 +1,5 @@
 ghost use Rattle.core_meaning.specs.AreaExamples.{CopyExamples, EndExamples, ReferenceExamples};
+ghost use Rattle.core_meaning.specs.DriverExamples.{DriverExamples};
 ghost use Rattle.core_meaning.specs.ImportExamples.{CellExamples, ReplyExamples, TickExamples};
 ghost use Rattle.core_meaning.specs.Laws.{RunsObeyTheirLaws};
 ghost use Rattle.core_meaning.specs.OperatorExamples.{AndExamples, ProductExamples, QuotientExamples, ShiftExamples, SumExamples};
@@ -43,4 +44,9 @@ pub fn import_examples()
     ensures ticks { TickExamples }
     ensures replies { ReplyExamples }
     ensures cells { CellExamples }
+{}
+
+/// What a driver does in a script of forty calls.
+pub fn driver_examples()
+    ensures { DriverExamples }
 {}

@@ -17,3 +17,4 @@ pub mod StatementExamples
 pub mod AreaExamples
 pub mod ImportExamples
 pub mod DriverExamples
+pub mod ExpressionExamples

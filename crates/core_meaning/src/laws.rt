@@ -1,5 +1,6 @@
 ghost use Rattle.core_meaning.specs.AreaExamples.{CopyExamples, EndExamples, ReferenceExamples};
 ghost use Rattle.core_meaning.specs.DriverExamples.{DriverExamples};
+ghost use Rattle.core_meaning.specs.ExpressionExamples.{BitExamples, ConversionExamples, NameExamples, PrefixExamples};
 ghost use Rattle.core_meaning.specs.ImportExamples.{CellExamples, ReplyExamples, TickExamples};
 ghost use Rattle.core_meaning.specs.Laws.{RunsObeyTheirLaws};
 ghost use Rattle.core_meaning.specs.OperatorExamples.{AndExamples, ProductExamples, QuotientExamples, ShiftExamples, SumExamples};
@@ -8,6 +9,14 @@ ghost use Rattle.core_meaning.specs.StatementExamples.{AssertExamples, ChoiceExa
 /// A run's events only grow with its steps, and its end stays.
 pub fn runs_obey_their_laws()
     ensures { RunsObeyTheirLaws }
+{}
+
+/// What each form of expression gives, and for which steps.
+pub fn expression_examples()
+    ensures names { NameExamples }
+    ensures bits { BitExamples }
+    ensures conversions { ConversionExamples }
+    ensures prefixes { PrefixExamples }
 {}
 
 /// What operators give in runs, with which steps, and at which check they stop.

@@ -6,4 +6,4 @@
 
 mod laws;
 
-pub use laws::{area_examples, condition_examples, driver_examples, import_examples, loop_examples, operator_examples, runs_obey_their_laws};
+pub use laws::{area_examples, condition_examples, driver_examples, expression_examples, import_examples, loop_examples, operator_examples, runs_obey_their_laws};

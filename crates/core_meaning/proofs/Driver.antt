@@ -1,8 +1,7 @@
 -- The driver's runs: its struct is written out once, and from there each run is computed.
-use Rattle.std.proofs.Common.{◌≡◌, ℕ, ℤ, List, [], ◌∷◌, map, refl, sym, ◌∙◌, ap, subst}
-use Rattle.std.specs.Prelude.{pos, false, codes, length}
-use Rattle.iv_words.specs.declared.IntKind.TheVariants.{U8, U16}
-use Rattle.iv_script.specs.declared.Outcome.{Outcome}
+use Rattle.std.proofs.Common.{◌≡◌, ℕ, [], ◌∷◌, refl, ◌∙◌, ap}
+use Rattle.std.specs.Prelude.{pos, false}
+use Rattle.iv_words.specs.declared.IntKind.TheVariants.{U8}
 use Rattle.iv_script.specs.declared.Script.{Script}
 use Rattle.step_semantics.specs.Runs.{run}
 use Rattle.type_trees.specs.Trees.{Leaf, Many, Struct, End, Field}
@@ -14,7 +13,7 @@ use Rattle.area_types.specs.declared.Area.TheVariants as tree
 use Rattle.area_types.specs.declared.ValueType.TheVariants as held
 use Rattle.area_types.proofs.View.{stored_is, array_is, ix_is, int_is}
 use Rattle.core_meaning.specs.Areas.{Live, filled}
-use Rattle.core_meaning.specs.State.{State, seen, first_state, first_area}
+use Rattle.core_meaning.specs.State.{State, seen, first_state}
 use Rattle.core_meaning.specs.Run.{entry, run_src}
 use Rattle.core_meaning.specs.DriverExamples.{DriverExamples, types, driver, u8, u16, set_up_script, whole_script}
 
@@ -43,8 +42,8 @@ uart_is =
 abbrev first_over : Written → State
 first_over ty = record {
   areas = Live (record { ty = Leaf (syntax.Bits 0); constant = false; held = filled (Leaf (syntax.Bits 0)) (pos 0 ∷ []) })
-    ∷ Live (record { ty = ty; constant = false; held = filled ty [] })
-    ∷ Live (record { ty = Leaf u16; constant = false; held = filled (Leaf u16) (pos 0 ∷ []) }) ∷ [];
+      ∷ Live (record { ty = ty; constant = false; held = filled ty [] })
+      ∷ Live (record { ty = Leaf u16; constant = false; held = filled (Leaf u16) (pos 0 ∷ []) }) ∷ [];
   frames = record { own = record { names = []; first = 3 }; callers = [] };
 }
 

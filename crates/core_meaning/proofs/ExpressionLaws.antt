@@ -1,11 +1,9 @@
 -- Expressions keep the laws of parts, form by form.
 use Rattle.std.proofs.Common.{ℕ, ℤ, Bool, List, [], ◌∷◌, Option, Some, None, Ok, Err}
-use Rattle.std.specs.Prelude.{pos, ◌++◌, unsigned_abs, not}
-use Rattle.std.specs.Option.{option_map_or}
-use Rattle.step_semantics.specs.Steps.{Halt, FailedCheck, NoMeaning, Part, give, halt, bind, tick, by_state}
+use Rattle.std.specs.Prelude.{pos}
+use Rattle.step_semantics.specs.Steps.{FailedCheck, Part, give, halt}
 use Rattle.step_semantics.specs.Lawful.{Lawful}
 use Rattle.step_semantics.proofs.Laws.{give_lawful, halt_lawful, bind_lawful, tick_lawful, by_state_lawful, choice_lawful}
-use Rattle.int_ops.specs.Operators.{truth}
 use Rattle.int_ops.specs.declared.Op.TheVariants as op
 use Rattle.ivory_tree.specs.declared.BinOp.{BinOp}
 use Rattle.ivory_tree.specs.declared.BinOp.TheVariants.{OrElse, AndAlso}

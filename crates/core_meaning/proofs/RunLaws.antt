@@ -11,7 +11,7 @@ use Rattle.area_types.specs.Syntax.{Name}
 use Rattle.core_tree.specs.Syntax.{ModuleCore, ProcCore}
 use Rattle.core_meaning.specs.Values.{Value, Num, Ref}
 use Rattle.core_meaning.specs.State.{seen, enter, back, first_state}
-use Rattle.core_meaning.specs.Conditions.{requires_of, ensures_of, Ensured, ensured}
+use Rattle.core_meaning.specs.Conditions.{requires_of, ensures_of, ensured}
 use Rattle.core_meaning.specs.Calls.{Calls, no_procedures}
 use Rattle.core_meaning.specs.Statements.{Flow}
 use Rattle.core_meaning.specs.Run.{result_of, body_of, procedure_call, with_procedure, entry_result, entry_among, entry}
@@ -49,7 +49,9 @@ module _ (core : ModuleCore) where
   entry_among_lawful : (earlier : Calls) → AllLawful earlier → (number : ℕ) (procs : List ProcCore) (name : Name) (values : List ℤ) → Lawful (entry_among core earlier number procs name values)
   entry_among_lawful earlier l number [] name values = lost_lawful core
   entry_among_lawful earlier l number (p ∷ procs) name values =
-      choice_lawful _ _ (bind_lawful _ (entry_result core) (procedure_call_lawful earlier l p (map Num values)) entry_result_lawful) (entry_among_lawful (with_procedure core earlier number p) (with_procedure_lawful earlier l number p) (suc number) procs name values) (p.exported && same_word p.name name)
+      choice_lawful _ _ (bind_lawful _ (entry_result core) (procedure_call_lawful earlier l p (map Num values)) entry_result_lawful)
+        (entry_among_lawful (with_procedure core earlier number p) (with_procedure_lawful earlier l number p) (suc number) procs name values)
+        (p.exported && same_word p.name name)
 
 pub runs_obey : RunsObeyTheirLaws
 runs_obey core script =

@@ -1,29 +1,25 @@
 -- Statements keep the laws of parts, form by form.
-use Rattle.std.proofs.Common.{ℕ, ℤ, Bool, List, [], ◌∷◌, Option, Some, None}
+use Rattle.std.proofs.Common.{ℕ, List, [], ◌∷◌, Option, Some, None}
 use Rattle.std.specs.Prelude.{suc, pred, pos, unsigned_abs, slice_get}
-use Rattle.step_semantics.specs.Steps.{Part, give, bind, tick, ticks, by_state, change, block}
-use Rattle.step_semantics.specs.Control.{Falls, Broke, Returned, also, counted}
+use Rattle.step_semantics.specs.Steps.{Part, give}
+use Rattle.step_semantics.specs.Control.{Falls, Broke}
 use Rattle.step_semantics.specs.Lawful.{Lawful}
 use Rattle.step_semantics.proofs.Laws.{give_lawful, bind_lawful, tick_lawful, ticks_lawful, by_state_lawful, change_lawful, choice_lawful, block_lawful}
 use Rattle.step_semantics.proofs.ControlLaws.{also_lawful, forever_lawful}
 use Rattle.step_semantics.proofs.CountedLaws.{counted_lawful}
 use Rattle.step_semantics.proofs.RunLaws.{import_call_lawful}
 use Rattle.type_trees.specs.Trees.{nodes}
-use Rattle.type_trees.specs.Values.{Cell}
-use Rattle.area_types.specs.Tables.{written_out}
 use Rattle.area_types.specs.Trees.{Written}
 use Rattle.core_tree.specs.declared.Check.{Check}
 use Rattle.core_tree.specs.Syntax.{ModuleCore, ExprCore, InitCore, One, Many as Braces, InitsCore, NoInits, MoreInits, ImportCore, ContractCore, CallCore, StmtCore, Let, LetCall, Alloc, Store, Copy, Call, If, IfElse, Map, Upto, Downto, Forever, Break, Return, Assert, NoAlloc, NoBreak, NoReturn, StmtsCore, NoStmts, MoreStmts}
 use Rattle.core_meaning.specs.Values.{Value, Num}
-use Rattle.core_meaning.specs.Areas.{type_at, held_at}
-use Rattle.core_meaning.specs.State.{State, seen, with_name, with_area, holding, leave}
-use Rattle.core_meaning.specs.Checks.{passes, on_number, on_some}
-use Rattle.core_meaning.specs.Expressions.{eval}
+use Rattle.core_meaning.specs.Areas.{Held, type_at, held_at}
+use Rattle.core_meaning.specs.State.{State, seen, leave}
 use Rattle.core_meaning.specs.Initializers.{init_value, init_values, first_value, part_types}
 use Rattle.core_meaning.specs.Conditions.{Ensured, tested, tested_all}
-use Rattle.core_meaning.specs.Imports.{reply_shape, piece_of, outside}
+use Rattle.core_meaning.specs.Imports.{reply_shape, outside}
 use Rattle.core_meaning.specs.Calls.{Calls, called, call}
-use Rattle.core_meaning.specs.Statements.{Flow, naming, store, copy, turn, returned, exec, exec_all}
+use Rattle.core_meaning.specs.Statements.{Flow, naming, store, copied, copy, turn, returned, exec, exec_all}
 use Rattle.core_meaning.proofs.ExpressionLaws.{lost_lawful, passes_lawful, on_number_lawful, on_truth_lawful, on_reference_lawful, on_some_lawful, choice_of_lawful, eval_lawful, eval_all_lawful}
 
 -- ---- initializers
@@ -76,14 +72,18 @@ store_lawful : (core : ModuleCore) (target value : Value) → Lawful (store core
 store_lawful core target value =
     on_number_lawful core value _ (λ v. on_reference_lawful core target _ (λ k path. by_state_lawful _ (λ s. on_some_lawful core (type_at s.areas k path) _ (λ ty. tick_lawful _ (change_lawful _ _)))))
 
+copied_lawful : (core : ModuleCore) (k : ℕ) (path : List ℕ) (target : Option Written) (source : Option Held) → Lawful (copied core k path target source)
+copied_lawful core k path target source = on_some_lawful core target _ (λ ty. on_some_lawful core source _ (λ held. ticks_lawful (nodes ty) _ (change_lawful _ _)))
+
 copy_lawful : (core : ModuleCore) (target source : Value) → Lawful (copy core target source)
 copy_lawful core target source =
-    on_reference_lawful core target _ (λ k path. on_reference_lawful core source _ (λ j from. by_state_lawful _ (λ s. on_some_lawful core (type_at s.areas k path) _ (λ ty. on_some_lawful core (held_at s.areas j from) _ (λ held. ticks_lawful (nodes ty) _ (change_lawful _ _))))))
+    on_reference_lawful core target _ (λ k path. on_reference_lawful core source _ (λ j from. by_state_lawful _ (λ s. copied_lawful core k path (type_at s.areas k path) (held_at s.areas j from))))
 
 turn_lawful : (number : ℕ) (body : Part State Flow) → Lawful body → (i : ℕ) → Lawful (turn number body i)
 turn_lawful number body l i = block_lawful leave _ (also_lawful (naming number (Num (pos i))) body (naming_lawful number _) l)
 
-module _ (core : ModuleCore) (calls : Calls) (ensured : Ensured) (calls_lawful : (number : ℕ) (args : List Value) → Lawful (calls number args)) (ensured_lawful : (result : Option Value) → Lawful (ensured result)) where
+module _ (core : ModuleCore) (calls : Calls) (ensured : Ensured)
+  (calls_lawful : (number : ℕ) (args : List Value) → Lawful (calls number args)) (ensured_lawful : (result : Option Value) → Lawful (ensured result)) where
   returned_lawful : (result : Option Value) → Lawful (returned ensured result)
   returned_lawful result = tick_lawful _ (bind_lawful _ _ (ensured_lawful result) (λ t. give_lawful _))
 
@@ -101,7 +101,8 @@ module _ (core : ModuleCore) (calls : Calls) (ensured : Ensured) (calls_lawful :
     exec_lawful (Upto number length e a) =
         bind_lawful _ _ (eval_lawful core None e) (λ x. on_number_lawful core x _ (λ last. tick_lawful _ (counted_lawful suc _ (turn_lawful number _ (exec_all_lawful a)) (unsigned_abs last) 0)))
     exec_lawful (Downto number length e a) =
-        bind_lawful _ _ (eval_lawful core None e) (λ x. on_number_lawful core x _ (λ first. tick_lawful _ (counted_lawful pred _ (turn_lawful number _ (exec_all_lawful a)) (unsigned_abs first) (unsigned_abs first))))
+        bind_lawful _ _ (eval_lawful core None e) (λ x. on_number_lawful core x _ (λ first.
+          tick_lawful _ (counted_lawful pred _ (turn_lawful number _ (exec_all_lawful a)) (unsigned_abs first) (unsigned_abs first))))
     exec_lawful (Forever a) = forever_lawful _ (block_lawful leave _ (exec_all_lawful a))
     exec_lawful Break = tick_lawful _ (give_lawful Broke)
     exec_lawful (Return None) = returned_lawful None

@@ -1,5 +1,5 @@
 -- What the forms on numbers answer, by the types of their operands.
-use Rattle.std.specs.Prelude.{ℕ, ℤ, pos, [], get_or, Bool, if◌then◌else◌, Result, Ok, Err}
+use Rattle.std.specs.Prelude.{ℕ, ℤ, pos, [], get_or, if◌then◌else◌, Result, Ok, Err}
 use Rattle.iv_words.specs.Kinds.{in_range}
 use Rattle.iv_words.specs.declared.IntKind.{IntKind}
 use Rattle.iv_words.specs.declared.IntKind.TheVariants.{U8, U16}
@@ -14,7 +14,7 @@ use Rattle.index_types.specs.Indices.{is_index, wrapped}
 use Rattle.bit_data.specs.Fields.{changed}
 use Rattle.bit_data.specs.declared.BitLayout.{BitLayout}
 use Rattle.bit_data.specs.declared.TooWide.{TooWide}
-use Rattle.area_types.specs.Syntax.{ValueType, Truth, Int, Ix, Bits}
+use Rattle.area_types.specs.Syntax.{ValueType, Int, Ix, Bits}
 use Rattle.core_tree.specs.declared.SiteKind.{SiteKind}
 use Rattle.core_tree.specs.declared.SiteKind.TheVariants.{Overflow, DivZero, Shift, Index, Cast}
 use Rattle.core_tree.specs.Syntax.{ModuleCore}

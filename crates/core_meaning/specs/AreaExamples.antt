@@ -1,21 +1,21 @@
 -- Areas: references that are passed and returned, copies, initializers, and what becomes of an area at the end of its block and of its call.
-use Rattle.std.specs.Prelude.{◌≡◌, ℕ, ℤ, pos, true, false, List, [], ◌∷◌, Option, Some, None, codes}
+use Rattle.std.specs.Prelude.{◌≡◌, ℕ, pos, false, List, [], ◌∷◌, Some, None, codes}
 use Rattle.iv_words.specs.declared.IntKind.TheVariants.{U8}
 use Rattle.iv_script.specs.declared.End.TheVariants.{Ended}
 use Rattle.iv_script.specs.declared.Outcome.{Outcome}
 use Rattle.iv_script.specs.declared.Reason.TheVariants.{Dead}
 use Rattle.step_semantics.specs.Steps.{World, NoMeaning, Finished, Halted}
-use Rattle.step_semantics.specs.Control.{Control, Falls, Returned}
+use Rattle.step_semantics.specs.Control.{Falls, Returned}
 use Rattle.type_trees.specs.Trees.{Leaf, Many}
 use Rattle.type_trees.specs.Values.{Cell, Parts, Nil, Cons}
 use Rattle.area_types.specs.Syntax.{ValueType, Truth, Int, Ref, Area, Stored, Array}
-use Rattle.area_types.specs.declared.region.Region.TheVariants.{Global, Own, Param}
+use Rattle.area_types.specs.declared.region.Region.TheVariants.{Own, Param}
 use Rattle.area_types.specs.Trees.{Written}
-use Rattle.core_tree.specs.Syntax.{ModuleCore, AreaCore, ProcCore, CallCore, ExprCore, InitCore, One, Many as Braces, InitsCore, NoInits, MoreInits, Element, StmtCore, Let, LetCall, Alloc, Store, Copy, Call, If, Return}
-use Rattle.core_meaning.specs.Values.{Value, Num, Ref as Refers}
+use Rattle.core_tree.specs.Syntax.{ModuleCore, ProcCore, ExprCore, One, Many as Braces, NoInits, MoreInits, Element, StmtCore, LetCall, Alloc, Store, Copy, If, Return}
+use Rattle.core_meaning.specs.Values.{Num, Ref as Refers}
 use Rattle.core_meaning.specs.Areas as areas
 use Rattle.core_meaning.specs.Areas.{Held, AreaState, Live, Marked, Gone}
-use Rattle.core_meaning.specs.State.{State, first_state}
+use Rattle.core_meaning.specs.State.{State}
 use Rattle.core_meaning.specs.Expressions.{eval}
 use Rattle.core_meaning.specs.Conditions.{ensured}
 use Rattle.core_meaning.specs.Calls.{no_procedures}
@@ -45,8 +45,8 @@ own = Ref false Own byte
 abbrev pub go : ProcCore
 go = procedure (codes "go") (Truth ∷ []) None (own ∷ own ∷ [])
     (Alloc 1 byte (Some (One (constant u8 1)))
-      ∷ If (local Truth 0) (stmts (LetCall 2 (record { import = false; callee = 0; args = local own 1 ∷ local own 1 ∷ [] }) ∷ Store (local own 2) (constant u8 5) ∷ []))
-      ∷ Store (area byte 0) (read u8 (local own 1)) ∷ [])
+    ∷ If (local Truth 0) (stmts (LetCall 2 (record { import = false; callee = 0; args = local own 1 ∷ local own 1 ∷ [] }) ∷ Store (local own 2) (constant u8 5) ∷ []))
+    ∷ Store (area byte 0) (read u8 (local own 1)) ∷ [])
 
 abbrev pub picking : ModuleCore
 picking = module_of (stored_area (codes "out") u8 (pos 0 ∷ []) ∷ []) [] (pick ∷ go ∷ [])
@@ -130,7 +130,8 @@ pub record EndExamples : Type 0 where
   pub made : (w : World) → exec empty (no_procedures empty) (ensured empty pick) allocating 1 w (resting [])
       ≡ Finished Falls w (record { areas = Live (two (pair 7 0)) ∷ []; frames = record { own = record { names = (3, Refers 0 []) ∷ (resting []).frames.own.names; first = 0 }; callers = [] } }) 0
   -- at the end of its block it is marked, and the name is out of scope
-  pub block_ends : (w : World) → exec empty (no_procedures empty) (ensured empty pick) (If (constant Truth 1) (stmts (allocating ∷ []))) 2 w (resting []) ≡ Finished Falls w (resting (Marked (two (pair 7 0)) ∷ [])) 0
+  pub block_ends : (w : World) → exec empty (no_procedures empty) (ensured empty pick) (If (constant Truth 1) (stmts (allocating ∷ []))) 2 w (resting [])
+      ≡ Finished Falls w (resting (Marked (two (pair 7 0)) ∷ [])) 0
   -- also where a return leaves it
   pub block_left : (w : World) → exec empty (no_procedures empty) (ensured empty pick) (If (constant Truth 1) (stmts (allocating ∷ Return None ∷ []))) 3 w (resting [])
       ≡ Finished (Returned None) w (resting (Marked (two (pair 7 0)) ∷ [])) 0

@@ -1,5 +1,5 @@
 -- Calls: the arguments from left to right, the call's step, and then what is called: an import, or an earlier procedure.
-use Rattle.std.specs.Prelude.{ℕ, List, slice_get, Option, Some, None, ◌==◌, if◌then◌else◌}
+use Rattle.std.specs.Prelude.{ℕ, List, slice_get, Option, if◌then◌else◌}
 use Rattle.step_semantics.specs.Steps.{Part, bind, tick}
 use Rattle.core_tree.specs.Syntax.{ModuleCore, CallCore}
 use Rattle.core_meaning.specs.Values.{Value}

@@ -1,5 +1,5 @@
 -- A driver, as a firmware author writes it: bit data, a struct with a ring of bytes, imports, contracts, and a script of forty calls.
-use Rattle.std.specs.Prelude.{◌≡◌, ℕ, zero, suc, ℤ, pos, true, false, List, [], ◌∷◌, ◌++◌, Option, Some, None, codes}
+use Rattle.std.specs.Prelude.{◌≡◌, ℕ, zero, suc, ℤ, pos, true, false, List, [], ◌∷◌, Some, None, codes}
 use Rattle.iv_words.specs.declared.IntKind.TheVariants.{U8, U16}
 use Rattle.iv_script.specs.declared.AreaCells.{AreaCells}
 use Rattle.iv_script.specs.declared.End.TheVariants.{Ended, Stopped}
@@ -9,17 +9,16 @@ use Rattle.iv_script.specs.declared.Script.{Script}
 use Rattle.iv_script.specs.declared.Piece.TheVariants as piece
 use Rattle.ivory_tree.specs.declared.BinOp.TheVariants.{Add, Sub, WrapAdd, Rem, Eq, Lt, Gt}
 use Rattle.bit_data.specs.declared.BitLayout.{BitLayout}
-use Rattle.area_types.specs.Syntax.{Name, ValueType, Truth, Int, Ix, Bits, Ref, Area, Stored, Array, Struct}
+use Rattle.area_types.specs.Syntax.{Name, ValueType, Truth, Int, Ix, Bits, Ref, Stored, Array, Struct}
 use Rattle.area_types.specs.Tables.{Table}
 use Rattle.area_types.specs.declared.Area.TheVariants as tree
 use Rattle.area_types.specs.declared.StructDef.{StructDef}
 use Rattle.area_types.specs.declared.ValueType.TheVariants as held
-use Rattle.area_types.specs.declared.region.Region.{Region}
 use Rattle.area_types.specs.declared.region.Region.TheVariants.{Global, Param}
 use Rattle.core_tree.specs.declared.SiteKind.TheVariants.{Overflow, DivZero, Cast as CastSite, Pre, Post}
-use Rattle.core_tree.specs.Syntax.{ModuleCore, ProcCore, CallCore, ExprCore, Cast, WrapIndex, SetField, Field, Element, Whole, StmtCore, Let, LetCall, Store, Call, If, Return}
+use Rattle.core_tree.specs.Syntax.{ModuleCore, ProcCore, CallCore, ExprCore, Cast, WrapIndex, SetField, Field, Element, Whole, Let, LetCall, Store, Call, If, Return}
 use Rattle.core_meaning.specs.Run.{run_src}
-use Rattle.core_meaning.specs.ExampleForms.{plain, site, with_checks, constant, local, area, read, with_op, stmts, procedure, stored_area, script, shown, going, cells_of, ret}
+use Rattle.core_meaning.specs.ExampleForms.{plain, site, with_checks, constant, local, area, read, chain, stmts, procedure, stored_area, script, shown, going, cells_of, ret}
 
 -- ---- types
 
@@ -34,7 +33,8 @@ abbrev pub ctrl_layout : BitLayout
 ctrl_layout = record {
   name = codes "Ctrl";
   word = U8;
-  fields = record { name = codes "enable"; low = 0; width = 1; truth = true } ∷ record { name = codes "mode"; low = 1; width = 3; truth = false } ∷ record { name = codes "level"; low = 4; width = 4; truth = false } ∷ [];
+  fields = record { name = codes "enable"; low = 0; width = 1; truth = true } ∷ record { name = codes "mode"; low = 1; width = 3; truth = false }
+    ∷ record { name = codes "level"; low = 4; width = 4; truth = false } ∷ [];
 }
 
 -- `struct Uart { head : ix(8); count : uint8_t; buf : [8] uint8_t; }`
@@ -42,7 +42,7 @@ abbrev pub uart_struct : StructDef
 uart_struct = record {
   name = codes "Uart";
   fields = record { name = codes "head"; area = tree.Stored (held.Ix 8) } ∷ record { name = codes "count"; area = tree.Stored (held.Int U8) }
-    ∷ record { name = codes "buf"; area = tree.Array 8 (tree.Stored (held.Int U8)) } ∷ [];
+      ∷ record { name = codes "buf"; area = tree.Array 8 (tree.Stored (held.Int U8)) } ∷ [];
 }
 
 abbrev pub types : Table
@@ -79,24 +79,24 @@ u = local (Ref false (Param 0) (Struct 0)) 0
 --    *u.buf[wrapix(8, uint8_t(*u.head) +% *u.count)] = b;  *u.count = *u.count + 1; }`
 abbrev pub push : ProcCore
 push = record (procedure (codes "push") (Ref false (Param 0) (Struct 0) ∷ u8 ∷ []) None []
-    (Store (slot_of u (WrapIndex (plain (Ix 8)) (Whole (plain u8) (with_op u8 [] WrapAdd (Cast (plain u8) (read (Ix 8) (head_of u))) (read u8 (count_of u)))))) (local u8 1)
-      ∷ Store (count_of u) (Whole (plain u8) (with_op u8 (site 1 Overflow ∷ []) Add (read u8 (count_of u)) (constant u8 1))) ∷ [])) {
-  exported = false;
-  contracts = record { before = true; cond = Whole (plain Truth) (with_op Truth [] Lt (read u8 (count_of u)) (constant u8 8)); check = site 0 Pre } ∷ [];
-}
+    (Store (slot_of u (WrapIndex (plain (Ix 8)) (chain u8 [] WrapAdd (Cast (plain u8) (read (Ix 8) (head_of u))) (read u8 (count_of u))))) (local u8 1)
+    ∷ Store (count_of u) (chain u8 (site 1 Overflow ∷ []) Add (read u8 (count_of u)) (constant u8 1)) ∷ [])) {
+      exported = false;
+      contracts = record { before = true; cond = chain Truth [] Lt (read u8 (count_of u)) (constant u8 8); check = site 0 Pre } ∷ [];
+    }
 
 -- `proc pop(u : ref r struct Uart) -> uint8_t requires(*u.count > 0) ensures(*u.count < 8) {
 --    let b = *u.buf[*u.head];  *u.head = wrapix(8, uint8_t(*u.head) + 1);  *u.count = *u.count - 1;  return b; }`
 abbrev pub pop : ProcCore
 pop = record (procedure (codes "pop") (Ref false (Param 0) (Struct 0) ∷ []) (Some u8) (u8 ∷ [])
     (Let 1 (read u8 (slot_of u (read (Ix 8) (head_of u))))
-      ∷ Store (head_of u) (WrapIndex (plain (Ix 8)) (Whole (plain u8) (with_op u8 (site 4 Overflow ∷ []) Add (Cast (plain u8) (read (Ix 8) (head_of u))) (constant u8 1))))
-      ∷ Store (count_of u) (Whole (plain u8) (with_op u8 (site 5 Overflow ∷ []) Sub (read u8 (count_of u)) (constant u8 1)))
-      ∷ Return (Some (local u8 1)) ∷ [])) {
-  exported = false;
-  contracts = record { before = true; cond = Whole (plain Truth) (with_op Truth [] Gt (read u8 (count_of u)) (constant u8 0)); check = site 2 Pre }
-    ∷ record { before = false; cond = Whole (plain Truth) (with_op Truth [] Lt (read u8 (count_of u)) (constant u8 8)); check = site 3 Post } ∷ [];
-}
+    ∷ Store (head_of u) (WrapIndex (plain (Ix 8)) (chain u8 (site 4 Overflow ∷ []) Add (Cast (plain u8) (read (Ix 8) (head_of u))) (constant u8 1)))
+    ∷ Store (count_of u) (chain u8 (site 5 Overflow ∷ []) Sub (read u8 (count_of u)) (constant u8 1))
+    ∷ Return (Some (local u8 1)) ∷ [])) {
+      exported = false;
+      contracts = record { before = true; cond = chain Truth [] Gt (read u8 (count_of u)) (constant u8 0); check = site 2 Pre }
+          ∷ record { before = false; cond = chain Truth [] Lt (read u8 (count_of u)) (constant u8 8); check = site 3 Post } ∷ [];
+    }
 
 -- `export proc setup(m : uint8_t) { *ctrl = set(set(*ctrl, enable, true), mode, m); }`
 abbrev pub setup : ProcCore
@@ -113,20 +113,20 @@ call_of k args = record { import = false; callee = k; args = args }
 abbrev pub blink : ProcCore
 blink = record (procedure (codes "blink") [] None []
     (If (Whole (plain Truth) (Field (plain Truth) (read (Bits 0) ctrl) 0))
-        (stmts (Call (import_with 0 (Whole (plain Truth) (with_op Truth [] Eq (Whole (plain u16) (with_op u16 (site 7 DivZero ∷ []) Rem (read u16 ticks) (constant u16 2))) (constant u16 0)) ∷ [])) ∷ [])) ∷ [])) { exported = false }
+    (stmts (Call (import_with 0 (chain Truth [] Eq (chain u16 (site 7 DivZero ∷ []) Rem (read u16 ticks) (constant u16 2)) (constant u16 0) ∷ [])) ∷ [])) ∷ [])) { exported = false }
 
 -- `export proc tick() { *ticks = *ticks + 1;  blink();  if *uart.count < 8 { push(uart, uint8_t(*ticks % 256)); } }`
 abbrev pub tick : ProcCore
 tick = procedure (codes "tick") [] None []
-    (Store ticks (Whole (plain u16) (with_op u16 (site 8 Overflow ∷ []) Add (read u16 ticks) (constant u16 1)))
-      ∷ Call (call_of 3 [])
-      ∷ If (Whole (plain Truth) (with_op Truth [] Lt (read u8 (count_of uart)) (constant u8 8)))
-        (stmts (Call (call_of 0 (uart ∷ Cast (with_checks u8 (site 9 CastSite ∷ [])) (Whole (plain u16) (with_op u16 (site 10 DivZero ∷ []) Rem (read u16 ticks) (constant u16 256))) ∷ [])) ∷ [])) ∷ [])
+    (Store ticks (chain u16 (site 8 Overflow ∷ []) Add (read u16 ticks) (constant u16 1))
+    ∷ Call (call_of 3 [])
+    ∷ If (chain Truth [] Lt (read u8 (count_of uart)) (constant u8 8))
+    (stmts (Call (call_of 0 (uart ∷ Cast (with_checks u8 (site 9 CastSite ∷ [])) (chain u16 (site 10 DivZero ∷ []) Rem (read u16 ticks) (constant u16 256)) ∷ [])) ∷ [])) ∷ [])
 
 -- `export proc drain() { if *uart.count > 0 { let b = pop(uart); send(b); } }`
 abbrev pub drain : ProcCore
 drain = procedure (codes "drain") [] None (u8 ∷ [])
-    (If (Whole (plain Truth) (with_op Truth [] Gt (read u8 (count_of uart)) (constant u8 0))) (stmts (LetCall 0 (call_of 1 (uart ∷ [])) ∷ Call (import_with 1 (local u8 0 ∷ [])) ∷ [])) ∷ [])
+    (If (chain Truth [] Gt (read u8 (count_of uart)) (constant u8 0)) (stmts (LetCall 0 (call_of 1 (uart ∷ [])) ∷ Call (import_with 1 (local u8 0 ∷ [])) ∷ [])) ∷ [])
 
 -- `area ctrl : Ctrl;`, `area uart : struct Uart;`, `area ticks : uint16_t;`, `import led(on : bool);`, `import send(byte : uint8_t);`
 abbrev pub driver : ModuleCore

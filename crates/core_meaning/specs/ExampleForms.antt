@@ -1,6 +1,5 @@
 -- How small modules, scripts and what comes of them are written in the examples.
-use Rattle.std.specs.Prelude.{ℕ, ℤ, pos, Bool, true, false, List, [], ◌∷◌, map, Option, Some, None, codes}
-use Rattle.iv_words.specs.declared.IntKind.{IntKind}
+use Rattle.std.specs.Prelude.{ℕ, ℤ, pos, true, false, List, [], ◌∷◌, map, Option, Some, None}
 use Rattle.iv_script.specs.declared.AreaCells.{AreaCells}
 use Rattle.iv_script.specs.declared.End.{End}
 use Rattle.iv_script.specs.declared.End.TheVariants.{Going}
@@ -14,7 +13,7 @@ use Rattle.area_types.specs.Syntax.{Name, ValueType, Ref, Area, Stored}
 use Rattle.area_types.specs.declared.region.Region.TheVariants.{Global}
 use Rattle.core_tree.specs.declared.Check.{Check}
 use Rattle.core_tree.specs.declared.SiteKind.{SiteKind}
-use Rattle.core_tree.specs.Syntax.{ModuleCore, AreaCore, ImportCore, ProcCore, Label, ExprCore, Number, Local, AreaName, Prefix, Binary, StmtCore, StmtsCore, NoStmts, MoreStmts}
+use Rattle.core_tree.specs.Syntax.{ModuleCore, AreaCore, ImportCore, ProcCore, Label, ExprCore, Number, Local, AreaName, Prefix, Binary, Whole, StmtCore, StmtsCore, NoStmts, MoreStmts}
 
 -- ---- expressions
 
@@ -42,6 +41,10 @@ read ty e = Prefix (plain ty) Deref e
 
 abbrev pub with_op : ValueType → List Check → BinOp → ExprCore → ExprCore → ExprCore
 with_op ty checks op left right = Binary (with_checks ty checks) op left right
+
+-- a chain with all its links
+abbrev pub chain : ValueType → List Check → BinOp → ExprCore → ExprCore → ExprCore
+chain ty checks op left right = Whole (plain ty) (with_op ty checks op left right)
 
 -- ---- modules
 

@@ -1,5 +1,5 @@
 -- The meaning of expressions: operands from left to right, then the form's step, then what it does. Literals and names take no step.
-use Rattle.std.specs.Prelude.{ℕ, ℤ, pos, unsigned_abs, Bool, not, if◌then◌else◌, List, [], ◌∷◌, ◌++◌, Option, Some, None, Result, Ok, is_some}
+use Rattle.std.specs.Prelude.{ℕ, ℤ, pos, unsigned_abs, not, if◌then◌else◌, List, [], ◌∷◌, ◌++◌, Option, Some, None, Ok}
 use Rattle.step_semantics.specs.Steps.{Part, give, bind, tick, by_state}
 use Rattle.int_ops.specs.Operators.{truth}
 use Rattle.int_ops.specs.declared.Op.TheVariants as op
@@ -13,7 +13,7 @@ use Rattle.core_tree.specs.Syntax.{ModuleCore, Label, ExprCore, Number, Outcome,
 use Rattle.core_meaning.specs.Values.{Value, Num, Ref}
 use Rattle.core_meaning.specs.Areas.{Areas, type_at, cell_at}
 use Rattle.core_meaning.specs.State.{State, value_of}
-use Rattle.core_meaning.specs.Checks.{lost, Answer, checked, on_number, on_truth, on_reference, on_some}
+use Rattle.core_meaning.specs.Checks.{Answer, checked, on_number, on_truth, on_reference, on_some}
 use Rattle.core_meaning.specs.Answers.{operator_of, operation, cast_to, index_to, wrapped_to, layout_of, field_set}
 
 -- ---- names

@@ -10,7 +10,7 @@ use Rattle.iv_script.specs.declared.Piece.TheVariants as piece
 use Rattle.iv_script.specs.declared.Plain.TheVariants as plain
 use Rattle.area_types.specs.Syntax.{ValueType, Truth, Int, Ref, Area, Stored, Array}
 use Rattle.area_types.specs.declared.region.Region.TheVariants.{Param}
-use Rattle.core_tree.specs.Syntax.{ModuleCore, AreaCore, ImportCore, CallCore, ExprCore, Let, LetCall, Store, Call, Forever, Return}
+use Rattle.core_tree.specs.Syntax.{ModuleCore, CallCore, ExprCore, LetCall, Store, Call, Forever, Return}
 use Rattle.core_meaning.specs.Run.{run_src}
 use Rattle.core_meaning.specs.ExampleForms.{constant, local, area, stmts, procedure, stored_area, module_of, script, shown, going, cells_of, ret, gave}
 
@@ -68,7 +68,8 @@ abbrev pub row : Area
 row = Array 2 (Stored u8)
 
 abbrev pub filling : ModuleCore
-filling = module_of (record { name = codes "d"; constant = false; area = row; first = pos 1 ∷ pos 2 ∷ [] } ∷ []) (record { name = codes "fill"; params = Ref false (Param 0) row ∷ []; result = None } ∷ [])
+filling = module_of (record { name = codes "d"; constant = false; area = row; first = pos 1 ∷ pos 2 ∷ [] } ∷ [])
+    (record { name = codes "fill"; params = Ref false (Param 0) row ∷ []; result = None } ∷ [])
     (procedure (codes "f") [] None [] (Call (importing (area row 0 ∷ [])) ∷ []) ∷ [])
 
 -- `import swap(v : bool, p : ref r [2] uint8_t, q : const ref s uint8_t, t : ref r uint8_t) -> uint16_t;`, and
@@ -76,7 +77,8 @@ filling = module_of (record { name = codes "d"; constant = false; area = row; fi
 abbrev pub swapping : ModuleCore
 swapping = module_of (record { name = codes "d"; constant = false; area = row; first = pos 1 ∷ pos 2 ∷ [] } ∷ stored_area (codes "e") u8 (pos 3 ∷ []) ∷ [])
     (record { name = codes "swap"; params = Truth ∷ Ref false (Param 0) row ∷ Ref true (Param 1) (Stored u8) ∷ Ref false (Param 0) (Stored u8) ∷ []; result = Some (plain.Int U16) } ∷ [])
-    (procedure (codes "f") [] (Some (Int U16)) (Int U16 ∷ []) (LetCall 0 (importing (constant Truth 1 ∷ area row 0 ∷ area (Stored u8) 1 ∷ area (Stored u8) 1 ∷ [])) ∷ Return (Some (local (Int U16) 0)) ∷ []) ∷ [])
+    (procedure (codes "f") [] (Some (Int U16)) (Int U16 ∷ []) 
+      (LetCall 0 (importing (constant Truth 1 ∷ area row 0 ∷ area (Stored u8) 1 ∷ area (Stored u8) 1 ∷ [])) ∷ Return (Some (local (Int U16) 0)) ∷ []) ∷ [])
 
 abbrev pub f_with : ModuleCore → List (List ℤ) → ℕ → Outcome
 f_with core replies n = run_src core (script ((codes "f", []) ∷ []) replies) n

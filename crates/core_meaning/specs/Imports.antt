@@ -1,6 +1,6 @@
 -- The call of an import: the outside sees its arguments, with the cells behind each reference as they are then, and replies. A reply has
 -- the result, if there is one, and then the cells of each mutable reference in the order of the parameters; they are written in that order.
-use Rattle.std.specs.Prelude.{ℕ, ℤ, List, [], ◌∷◌, ◌++◌, map, drop, length, Option, Some, None, true, false}
+use Rattle.std.specs.Prelude.{ℤ, List, [], ◌∷◌, ◌++◌, map, drop, Option, Some, None, false}
 use Rattle.std.specs.List.{flat_map}
 use Rattle.std.specs.Option.{option_to_list}
 use Rattle.iv_script.specs.declared.Piece.{Piece}
@@ -18,7 +18,6 @@ use Rattle.core_tree.specs.Syntax.{ModuleCore, ImportCore}
 use Rattle.core_meaning.specs.Values.{Value, Num, Ref}
 use Rattle.core_meaning.specs.Areas.{Areas, cells_at, put_at, filled}
 use Rattle.core_meaning.specs.State.{State, seen}
-use Rattle.core_meaning.specs.Checks.{lost}
 
 -- an argument, as the outside sees it
 abbrev pub piece_of : Areas → Value → Piece

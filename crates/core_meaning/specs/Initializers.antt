@@ -1,6 +1,6 @@
 -- The first value of a local area: its initializer's expressions from left to right, and zeros for what it does not name.
 use Rattle.std.specs.Prelude.{ℤ, List, [], ◌∷◌, Option, Some, None}
-use Rattle.type_trees.specs.Trees.{Tree, Leaf, Many, Struct, Row, End, Field, repeated}
+use Rattle.type_trees.specs.Trees.{Leaf, Many, Struct, End, Field, repeated}
 use Rattle.type_trees.specs.Values as tree
 use Rattle.type_trees.specs.Values.{Cell, Parts, Nil, Cons}
 use Rattle.area_types.specs.Trees.{Written, WrittenRow}

@@ -1,8 +1,19 @@
--- The laws of the runs of modules: for each number of steps one outcome; events only grow with the steps, and an end stays.
+-- The laws of runs and of expressions.
+use Rattle.std.specs.Prelude.{ℕ, Option}
 use Rattle.iv_script.specs.declared.Script.{Script}
+use Rattle.step_semantics.specs.Steps.{World}
 use Rattle.step_semantics.specs.Outcomes.{OutcomeLaws}
-use Rattle.core_tree.specs.Syntax.{ModuleCore}
+use Rattle.core_tree.specs.Syntax.{ModuleCore, ExprCore}
+use Rattle.core_meaning.specs.Values.{Value}
+use Rattle.core_meaning.specs.State.{State}
+use Rattle.core_meaning.specs.Expressions.{eval}
+use Rattle.core_meaning.specs.Gives.{Gives, Rests}
 use Rattle.core_meaning.specs.Run.{run_src}
 
+-- for each number of steps there is one outcome; events only grow with the steps, and an end stays
 abbrev pub RunsObeyTheirLaws : Type 0
 RunsObeyTheirLaws = (core : ModuleCore) (script : Script) → OutcomeLaws (run_src core script)
+
+-- an expression changes neither the state nor the world, and its value does not depend on its steps
+abbrev pub ExpressionsChangeNothing : Type 0
+ExpressionsChangeNothing = (core : ModuleCore) (outcome : Option Value) (e : ExprCore) (n : ℕ) (w : World) (s : State) → Rests core (Gives core outcome s e) w s (eval core outcome e n w s)

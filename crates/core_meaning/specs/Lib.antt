@@ -10,6 +10,7 @@ pub mod Imports
 pub mod Calls
 pub mod Statements
 pub mod Run
+pub mod Gives
 pub mod Laws
 pub mod ExampleForms
 pub mod OperatorExamples

@@ -9,14 +9,14 @@ use Rattle.ivory_tree.specs.declared.BinOp.TheVariants as op
 use Rattle.area_types.specs.Syntax.{Name, Truth, Int}
 use Rattle.core_tree.specs.declared.Check.{Check}
 use Rattle.core_tree.specs.declared.SiteKind.TheVariants.{Overflow, DivZero, Shift}
-use Rattle.core_tree.specs.Syntax.{ModuleCore, ProcCore, Whole, Return}
+use Rattle.core_tree.specs.Syntax.{ProcCore, Whole, Return}
 use Rattle.core_meaning.specs.Run.{run_src}
-use Rattle.core_meaning.specs.ExampleForms.{plain, site, constant, local, with_op, procedure, module_of, script, shown, going, gave}
+use Rattle.core_meaning.specs.ExampleForms.{plain, site, constant, local, chain, procedure, module_of, script, shown, going, gave}
 
 -- `export proc NAME(a : K, b : K) -> K { return a OP b; }`
 abbrev pub operating : Name → IntKind → BinOp → List Check → ProcCore
 operating name kind o checks =
-    procedure name (Int kind ∷ Int kind ∷ []) (Some (Int kind)) [] (Return (Some (Whole (plain (Int kind)) (with_op (Int kind) checks o (local (Int kind) 0) (local (Int kind) 1)))) ∷ [])
+    procedure name (Int kind ∷ Int kind ∷ []) (Some (Int kind)) [] (Return (Some (chain (Int kind) checks o (local (Int kind) 0) (local (Int kind) 1))) ∷ [])
 
 abbrev pub run_of : ProcCore → List (Name × List ℤ) → ℕ → Outcome
 run_of p calls n = run_src (module_of [] [] (p ∷ [])) (script calls []) n
@@ -84,8 +84,8 @@ pub record ProductExamples : Type 0 where
 
 -- `export proc g(z : int32_t) -> bool { return false && (1 / z == 1); }`: what decides is not evaluated further
 abbrev pub g : ProcCore
-g = procedure (codes "g") (Int I32 ∷ []) (Some Truth) [] (Return (Some (Whole (plain Truth) (with_op Truth [] op.AndAlso (constant Truth 0)
-    (Whole (plain Truth) (with_op Truth [] op.Eq (Whole (plain (Int I32)) (with_op (Int I32) (site 0 DivZero ∷ site 1 Overflow ∷ []) op.Div (constant (Int I32) 1) (local (Int I32) 0))) (constant (Int I32) 1)))))) ∷ [])
+g = procedure (codes "g") (Int I32 ∷ []) (Some Truth) [] (Return (Some (chain Truth [] op.AndAlso (constant Truth 0)
+    (chain Truth [] op.Eq (chain (Int I32) (site 0 DivZero ∷ site 1 Overflow ∷ []) op.Div (constant (Int I32) 1) (local (Int I32) 0)) (constant (Int I32) 1)))) ∷ [])
 
 abbrev pub gives_g : Outcome
 gives_g = gives g (pos 0)

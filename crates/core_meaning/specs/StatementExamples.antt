@@ -1,5 +1,5 @@
 -- Statements and their steps: loops that count from both ends, ways out of them, choices, conditions and contracts.
-use Rattle.std.specs.Prelude.{◌≡◌, ℕ, ℤ, pos, Bool, true, false, List, [], ◌∷◌, Option, Some, None, codes}
+use Rattle.std.specs.Prelude.{◌≡◌, ℕ, ℤ, pos, true, false, List, [], ◌∷◌, Some, None, codes}
 use Rattle.iv_words.specs.declared.IntKind.TheVariants.{U8}
 use Rattle.iv_script.specs.declared.End.{End}
 use Rattle.iv_script.specs.declared.End.TheVariants.{Ended, Stopped}
@@ -8,9 +8,9 @@ use Rattle.iv_script.specs.declared.Outcome.{Outcome}
 use Rattle.ivory_tree.specs.declared.BinOp.TheVariants.{Add, WrapAdd, WrapMul, Lt, Gt}
 use Rattle.area_types.specs.Syntax.{Name, ValueType, Truth, Int, Ix, Stored}
 use Rattle.core_tree.specs.declared.SiteKind.TheVariants.{Overflow, Index, Assert as AssertSite, Pre, Post}
-use Rattle.core_tree.specs.Syntax.{ModuleCore, ProcCore, ContractCore, ExprCore, Outcome as Result, Cast, ToIndex, Cond, Whole, StmtCore, Let, LetCall, Store, Call, If, IfElse, Map, Upto, Downto, Forever, Break, Return, Assert, NoAlloc, NoBreak, NoReturn}
+use Rattle.core_tree.specs.Syntax.{ModuleCore, ProcCore, ContractCore, ExprCore, Outcome as Result, Cast, ToIndex, Cond, Whole, StmtCore, Let, LetCall, Store, If, IfElse, Map, Upto, Downto, Forever, Break, Return, Assert, NoAlloc, NoBreak, NoReturn}
 use Rattle.core_meaning.specs.Run.{run_src}
-use Rattle.core_meaning.specs.ExampleForms.{plain, site, with_checks, constant, local, area, read, with_op, stmts, procedure, stored_area, module_of, script, shown, going, cells_of, ret, gave}
+use Rattle.core_meaning.specs.ExampleForms.{plain, site, with_checks, constant, local, area, read, chain, with_op, stmts, procedure, stored_area, module_of, script, shown, going, cells_of, ret, gave}
 
 abbrev pub u8 : ValueType
 u8 = Int U8
@@ -36,7 +36,7 @@ comes events end v = shown events end (cells_of (codes "n") (pos v ∷ []) ∷ [
 
 -- `*n = *n + 1;`
 abbrev pub increment : ℕ → StmtCore
-increment k = Store n (Whole (plain u8) (with_op u8 (site k Overflow ∷ []) Add (read u8 n) (constant u8 1)))
+increment k = Store n (chain u8 (site k Overflow ∷ []) Add (read u8 n) (constant u8 1))
 
 -- `export proc up() { map i : ix(1) { *n = *n + 1; } }`
 abbrev pub up : ProcCore
@@ -61,7 +61,7 @@ pub record LoopExamples : Type 0 where
 
 -- `*n = *n *% 10 +% uint8_t(i);`, which notes the turns
 abbrev pub note : StmtCore
-note = Store n (Whole (plain u8) (with_op u8 [] WrapAdd (with_op u8 [] WrapMul (read u8 n) (constant u8 10)) (Cast (plain u8) (local (Ix 3) 0))))
+note = Store n (chain u8 [] WrapAdd (with_op u8 [] WrapMul (read u8 n) (constant u8 10)) (Cast (plain u8) (local (Ix 3) 0)))
 
 abbrev pub looping : StmtCore → ProcCore
 looping loop = procedure (codes "go") [] None (Ix 3 ∷ []) (loop ∷ [])
@@ -125,8 +125,8 @@ with_contracts contracts p = record p { contracts = contracts }
 -- `proc small(a : uint8_t) -> uint8_t requires(a > 0) ensures(result < 10) { return a; }`
 abbrev pub small : ProcCore
 small = with_contracts
-    (record { before = true; cond = Whole (plain Truth) (with_op Truth [] Gt (local u8 0) (constant u8 0)); check = site 0 Pre }
-      ∷ record { before = false; cond = Whole (plain Truth) (with_op Truth [] Lt (Result (plain u8)) (constant u8 10)); check = site 1 Post } ∷ [])
+    (record { before = true; cond = chain Truth [] Gt (local u8 0) (constant u8 0); check = site 0 Pre }
+    ∷ record { before = false; cond = chain Truth [] Lt (Result (plain u8)) (constant u8 10); check = site 1 Post } ∷ [])
     (procedure (codes "small") (u8 ∷ []) (Some u8) [] (Return (Some (local u8 0)) ∷ []))
 
 -- `export proc ask(a : uint8_t) -> uint8_t { let x = small(a); return x; }`
@@ -138,7 +138,7 @@ asked v steps = one_of (small ∷ ask ∷ []) (codes "ask") (pos v ∷ []) steps
 
 -- `export proc zero() ensures(*n < 1) { *n = *n + 1; }`, and the same that returns, from a block
 abbrev pub ensuring : List StmtCore → ProcCore
-ensuring body = with_contracts (record { before = false; cond = Whole (plain Truth) (with_op Truth [] Lt (read u8 n) (constant u8 1)); check = site 1 Post } ∷ []) (procedure (codes "zero") [] None [] body)
+ensuring body = with_contracts (record { before = false; cond = chain Truth [] Lt (read u8 n) (constant u8 1); check = site 1 Post } ∷ []) (procedure (codes "zero") [] None [] body)
 
 pub record ContractExamples : Type 0 where
   -- the entry call, the call, the comparison and its test, the return, the comparison and its test, the return

@@ -1,12 +1,12 @@
 -- The meaning of statements, and how control leaves them.
-use Rattle.std.specs.Prelude.{ℕ, suc, pred, ℤ, pos, unsigned_abs, Bool, if◌then◌else◌, List, Option, Some, None}
+use Rattle.std.specs.Prelude.{ℕ, suc, pred, pos, unsigned_abs, List, Option, Some, None}
 use Rattle.step_semantics.specs.Steps.{Part, give, bind, tick, ticks, by_state, change, block}
 use Rattle.step_semantics.specs.Control.{Control, Falls, Broke, Returned, also, forever, counted}
 use Rattle.type_trees.specs.Trees.{nodes}
 use Rattle.type_trees.specs.Values.{Cell}
 use Rattle.area_types.specs.Tables.{written_out}
 use Rattle.area_types.specs.Trees.{Written}
-use Rattle.core_tree.specs.Syntax.{ModuleCore, ExprCore, CallCore, StmtCore, Let, LetCall, Alloc, Store, Copy, Call, If, IfElse, Map, Upto, Downto, Forever, Break, Return, Assert, NoAlloc, NoBreak, NoReturn, StmtsCore, NoStmts, MoreStmts}
+use Rattle.core_tree.specs.Syntax.{ModuleCore, StmtCore, Let, LetCall, Alloc, Store, Copy, Call, If, IfElse, Map, Upto, Downto, Forever, Break, Return, Assert, NoAlloc, NoBreak, NoReturn, StmtsCore, NoStmts, MoreStmts}
 use Rattle.core_meaning.specs.Values.{Value, Num}
 use Rattle.core_meaning.specs.Areas.{Held, type_at, held_at}
 use Rattle.core_meaning.specs.State.{State, with_name, with_area, holding, leave}
@@ -29,9 +29,12 @@ store core target value =
     on_number core value (λ v. on_reference core target (λ k path. by_state (λ s. on_some core (type_at s.areas k path) (λ ty. tick (change Falls (holding k path (Cell v)))))))
 
 -- a copy takes as many steps as the area has nodes
+abbrev pub copied : ModuleCore → ℕ → List ℕ → Option Written → Option Held → Part State Flow
+copied core k path target source = on_some core target (λ ty. on_some core source (λ held. ticks (nodes ty) (change Falls (holding k path held))))
+
 abbrev pub copy : ModuleCore → Value → Value → Part State Flow
 copy core target source =
-    on_reference core target (λ k path. on_reference core source (λ j from. by_state (λ s. on_some core (type_at s.areas k path) (λ ty. on_some core (held_at s.areas j from) (λ held. ticks (nodes ty) (change Falls (holding k path held)))))))
+    on_reference core target (λ k path. on_reference core source (λ j from. by_state (λ s. copied core k path (type_at s.areas k path) (held_at s.areas j from))))
 
 -- a turn of a loop that counts: its block begins with the name for the count
 abbrev pub turn : ℕ → Part State Flow → ℕ → Part State Flow

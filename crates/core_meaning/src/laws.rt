@@ -2,13 +2,18 @@ ghost use Rattle.core_meaning.specs.AreaExamples.{CopyExamples, EndExamples, Ref
 ghost use Rattle.core_meaning.specs.DriverExamples.{DriverExamples};
 ghost use Rattle.core_meaning.specs.ExpressionExamples.{BitExamples, ConversionExamples, NameExamples, PrefixExamples};
 ghost use Rattle.core_meaning.specs.ImportExamples.{CellExamples, ReplyExamples, TickExamples};
-ghost use Rattle.core_meaning.specs.Laws.{RunsObeyTheirLaws};
+ghost use Rattle.core_meaning.specs.Laws.{ExpressionsChangeNothing, RunsObeyTheirLaws};
 ghost use Rattle.core_meaning.specs.OperatorExamples.{AndExamples, ProductExamples, QuotientExamples, ShiftExamples, SumExamples};
 ghost use Rattle.core_meaning.specs.StatementExamples.{AssertExamples, ChoiceExamples, ContractExamples, LoopExamples, TurnExamples};
 
 /// A run's events only grow with its steps, and its end stays.
 pub fn runs_obey_their_laws()
     ensures { RunsObeyTheirLaws }
+{}
+
+/// An expression leaves the state and the world as they are, and its value does not depend on its steps.
+pub fn expressions_change_nothing()
+    ensures { ExpressionsChangeNothing }
 {}
 
 /// What each form of expression gives, and for which steps.

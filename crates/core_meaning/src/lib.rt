@@ -6,4 +6,8 @@
 
 mod laws;
 
-pub use laws::{area_examples, condition_examples, driver_examples, expression_examples, import_examples, loop_examples, operator_examples, runs_obey_their_laws};
+pub use laws::{
+    area_examples, condition_examples, driver_examples, expression_examples,
+    expressions_change_nothing, import_examples,
+    loop_examples, operator_examples, runs_obey_their_laws,
+};

@@ -1,10 +1,14 @@
--- The laws of runs and of expressions.
-use Rattle.std.specs.Prelude.{ℕ, Option}
+-- The laws of runs, of expressions, and of values that are made of numbers.
+use Rattle.std.specs.Prelude.{◌≡◌, ℕ, ◌≤◌, ℤ, List, ◌++◌, length, drop, Option}
 use Rattle.iv_script.specs.declared.Script.{Script}
 use Rattle.step_semantics.specs.Steps.{World}
 use Rattle.step_semantics.specs.Outcomes.{OutcomeLaws}
+use Rattle.type_trees.specs.Trees.{count}
+use Rattle.type_trees.specs.Values.{cells, HasForm}
+use Rattle.area_types.specs.Trees.{Written}
 use Rattle.core_tree.specs.Syntax.{ModuleCore, ExprCore}
 use Rattle.core_meaning.specs.Values.{Value}
+use Rattle.core_meaning.specs.Areas.{filled}
 use Rattle.core_meaning.specs.State.{State}
 use Rattle.core_meaning.specs.Expressions.{eval}
 use Rattle.core_meaning.specs.Gives.{Gives, Rests}
@@ -17,3 +21,7 @@ RunsObeyTheirLaws = (core : ModuleCore) (script : Script) → OutcomeLaws (run_s
 -- an expression changes neither the state nor the world, and its value does not depend on its steps
 abbrev pub ExpressionsChangeNothing : Type 0
 ExpressionsChangeNothing = (core : ModuleCore) (outcome : Option Value) (e : ExprCore) (n : ℕ) (w : World) (s : State) → Rests core (Gives core outcome s e) w s (eval core outcome e n w s)
+
+-- A value that is filled from numbers enough has the form of its type, and its cells hold the first of the numbers, in order.
+abbrev pub FilledValuesHold : Type 0
+FilledValuesHold = (a : Written) (vs : List ℤ) → count a ≤ length vs → HasForm a (filled a vs) × (cells (filled a vs) ++ drop (count a) vs ≡ vs)

@@ -15,7 +15,7 @@ use Rattle.area_types.proofs.View.{stored_is, array_is, ix_is, int_is}
 use Rattle.core_meaning.specs.Areas.{Live, filled}
 use Rattle.core_meaning.specs.State.{State, seen, first_state}
 use Rattle.core_meaning.specs.Run.{entry, run_src}
-use Rattle.core_meaning.specs.DriverExamples.{DriverExamples, types, driver, u8, u16, set_up_script, whole_script}
+use Rattle.core_meaning.specs.DriverExamples.{DriverExamples, types, driver, u8, u16, set_up_script, whole_script, ten_zeros}
 
 -- the struct over the areas of its fields
 abbrev over : syntax.Area → syntax.Area → syntax.Area → Written
@@ -42,7 +42,7 @@ uart_is =
 abbrev first_over : Written → State
 first_over ty = record {
   areas = Live (record { ty = Leaf (syntax.Bits 0); constant = false; held = filled (Leaf (syntax.Bits 0)) (pos 0 ∷ []) })
-      ∷ Live (record { ty = ty; constant = false; held = filled ty [] })
+      ∷ Live (record { ty = ty; constant = false; held = filled ty ten_zeros })
       ∷ Live (record { ty = Leaf u16; constant = false; held = filled (Leaf u16) (pos 0 ∷ []) }) ∷ [];
   frames = record { own = record { names = []; first = 3 }; callers = [] };
 }

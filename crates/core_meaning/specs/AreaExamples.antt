@@ -6,17 +6,18 @@ use Rattle.iv_script.specs.declared.Outcome.{Outcome}
 use Rattle.iv_script.specs.declared.Reason.TheVariants.{Dead}
 use Rattle.step_semantics.specs.Steps.{World, NoMeaning, Finished, Halted}
 use Rattle.step_semantics.specs.Control.{Falls, Returned}
-use Rattle.type_trees.specs.Trees.{Leaf, Many}
+use Rattle.type_trees.specs.Trees.{Leaf, Many, Struct, End, Field as Member}
 use Rattle.type_trees.specs.Values.{Cell, Parts, Nil, Cons}
 use Rattle.area_types.specs.Syntax.{ValueType, Truth, Int, Ref, Area, Stored, Array}
 use Rattle.area_types.specs.declared.region.Region.TheVariants.{Own, Param}
 use Rattle.area_types.specs.Trees.{Written}
-use Rattle.core_tree.specs.Syntax.{ModuleCore, ProcCore, ExprCore, One, Many as Braces, NoInits, MoreInits, Element, StmtCore, LetCall, Alloc, Store, Copy, If, Return}
+use Rattle.core_tree.specs.Syntax.{InitCore, ModuleCore, ProcCore, ExprCore, One, Many as Braces, NoInits, MoreInits, Element, StmtCore, LetCall, Alloc, Store, Copy, If, Return}
 use Rattle.core_meaning.specs.Values.{Num, Ref as Refers}
 use Rattle.core_meaning.specs.Areas as areas
 use Rattle.core_meaning.specs.Areas.{Held, AreaState, Live, Marked, Gone}
 use Rattle.core_meaning.specs.State.{State}
 use Rattle.core_meaning.specs.Expressions.{eval}
+use Rattle.core_meaning.specs.Initializers.{first_value}
 use Rattle.core_meaning.specs.Conditions.{ensured}
 use Rattle.core_meaning.specs.Calls.{no_procedures}
 use Rattle.core_meaning.specs.Statements.{exec}
@@ -118,6 +119,24 @@ allocating = Alloc 3 (Array 2 byte) (Some (Braces (MoreInits (One (constant u8 7
 
 abbrev pub run_one : StmtCore → ProcCore
 run_one s = procedure [] [] None [] (s ∷ [])
+
+-- a struct of a byte and of two rows
+abbrev pub mixed : Written
+mixed = Struct 0 (Member 0 (Leaf u8) (Member 1 (Many 2 row) End))
+
+abbrev pub byte_init : ℕ → InitCore
+byte_init v = One (constant u8 v)
+
+abbrev pub mixed_value : ℕ → Held → Held → Held
+mixed_value a x y = Parts (Cons (Cell (pos a)) (Cons (Parts (Cons x (Cons y Nil))) Nil))
+
+pub record InitializerExamples : Type 0 where
+  -- `= {1, {{2}, {3, 4}}}`
+  pub braces : (w : World) (s : State) → first_value empty (Some (Braces (MoreInits (byte_init 1) (MoreInits (Braces (MoreInits (Braces (MoreInits (byte_init 2) NoInits)) (MoreInits (Braces (MoreInits (byte_init 3) (MoreInits (byte_init 4) NoInits))) NoInits))) NoInits)))) mixed 0 w s
+      ≡ Finished (mixed_value 1 (pair 2 0) (pair 3 4)) w s 0
+  -- `= {1}`, and none
+  pub fewer : (w : World) (s : State) → first_value empty (Some (Braces (MoreInits (byte_init 1) NoInits))) mixed 0 w s ≡ Finished (mixed_value 1 (pair 0 0) (pair 0 0)) w s 0
+  pub none : (w : World) (s : State) → first_value empty None mixed 0 w s ≡ Finished (mixed_value 0 (pair 0 0) (pair 0 0)) w s 0
 
 pub record EndExamples : Type 0 where
   -- an area whose block has ended is still read until its procedure ends

@@ -36,6 +36,7 @@ holds (Err failed) kind = not (same_kind failed kind)
 abbrev pub tests_of : Answer → List Check → List (ℕ × Bool)
 tests_of answer checks = map (λ c. (c.site, holds answer c.kind)) checks
 
+-- no check of a valid module is missing: a form without one answers a number
 abbrev pub answered : ModuleCore → Answer → Part State Value
 answered core (Ok v) = give (Num v)
 answered core (Err failed) = lost core

@@ -9,11 +9,12 @@ use Rattle.iv_script.specs.declared.Script.{Script}
 use Rattle.iv_script.specs.declared.Piece.TheVariants as piece
 use Rattle.ivory_tree.specs.declared.BinOp.TheVariants.{Add, Sub, WrapAdd, Rem, Eq, Lt, Gt}
 use Rattle.bit_data.specs.declared.BitLayout.{BitLayout}
-use Rattle.area_types.specs.Syntax.{Name, ValueType, Truth, Int, Ix, Bits, Ref, Stored, Array, Struct}
+use Rattle.area_types.specs.Syntax.{Name, ValueType, Truth, Int, Ix, Bits, Ref, Stored, Array, Struct, Area}
 use Rattle.area_types.specs.Tables.{Table}
 use Rattle.area_types.specs.declared.Area.TheVariants as tree
 use Rattle.area_types.specs.declared.StructDef.{StructDef}
 use Rattle.area_types.specs.declared.ValueType.TheVariants as held
+use Rattle.area_types.specs.declared.region.Region.{Region}
 use Rattle.area_types.specs.declared.region.Region.TheVariants.{Global, Param}
 use Rattle.core_tree.specs.declared.SiteKind.TheVariants.{Overflow, DivZero, Cast as CastSite, Pre, Post}
 use Rattle.core_tree.specs.Syntax.{ModuleCore, ProcCore, CallCore, ExprCore, Cast, WrapIndex, SetField, Field, Element, Whole, Let, LetCall, Store, Call, If, Return}
@@ -59,15 +60,18 @@ uart = area (Struct 0) 1
 abbrev pub ticks : ExprCore
 ticks = area (Stored u16) 2
 
--- references to the fields of a Uart
-abbrev pub head_of : ExprCore → ExprCore
-head_of e = Whole (plain (Ref false Global (Stored (Ix 8)))) (Field (plain (Ref false Global (Stored (Ix 8)))) e 0)
+-- references to the fields of a Uart in a region, and to a byte of its ring
+abbrev pub field_of : Region → Area → ExprCore → ℕ → ExprCore
+field_of r a e field = Field (plain (Ref false r a)) e field
 
-abbrev pub count_of : ExprCore → ExprCore
-count_of e = Whole (plain (Ref false Global (Stored u8))) (Field (plain (Ref false Global (Stored u8))) e 1)
+abbrev pub head_of : Region → ExprCore → ExprCore
+head_of r e = Whole (plain (Ref false r (Stored (Ix 8)))) (field_of r (Stored (Ix 8)) e 0)
 
-abbrev pub slot_of : ExprCore → ExprCore → ExprCore
-slot_of e i = Whole (plain (Ref false Global (Stored u8))) (Element (plain (Ref false Global (Stored u8))) (Field (plain (Ref false Global (Array 8 (Stored u8)))) e 2) i)
+abbrev pub count_of : Region → ExprCore → ExprCore
+count_of r e = Whole (plain (Ref false r (Stored u8))) (field_of r (Stored u8) e 1)
+
+abbrev pub slot_of : Region → ExprCore → ExprCore → ExprCore
+slot_of r e i = Whole (plain (Ref false r (Stored u8))) (Element (plain (Ref false r (Stored u8))) (field_of r (Array 8 (Stored u8)) e 2) i)
 
 -- ---- procedures
 
@@ -79,23 +83,23 @@ u = local (Ref false (Param 0) (Struct 0)) 0
 --    *u.buf[wrapix(8, uint8_t(*u.head) +% *u.count)] = b;  *u.count = *u.count + 1; }`
 abbrev pub push : ProcCore
 push = record (procedure (codes "push") (Ref false (Param 0) (Struct 0) ∷ u8 ∷ []) None []
-    (Store (slot_of u (WrapIndex (plain (Ix 8)) (chain u8 [] WrapAdd (Cast (plain u8) (read (Ix 8) (head_of u))) (read u8 (count_of u))))) (local u8 1)
-    ∷ Store (count_of u) (chain u8 (site 1 Overflow ∷ []) Add (read u8 (count_of u)) (constant u8 1)) ∷ [])) {
+    (Store (slot_of (Param 0) u (WrapIndex (plain (Ix 8)) (chain u8 [] WrapAdd (Cast (plain u8) (read (Ix 8) (head_of (Param 0) u))) (read u8 (count_of (Param 0) u))))) (local u8 1)
+    ∷ Store (count_of (Param 0) u) (chain u8 (site 1 Overflow ∷ []) Add (read u8 (count_of (Param 0) u)) (constant u8 1)) ∷ [])) {
       exported = false;
-      contracts = record { before = true; cond = chain Truth [] Lt (read u8 (count_of u)) (constant u8 8); check = site 0 Pre } ∷ [];
+      contracts = record { before = true; cond = chain Truth [] Lt (read u8 (count_of (Param 0) u)) (constant u8 8); check = site 0 Pre } ∷ [];
     }
 
 -- `proc pop(u : ref r struct Uart) -> uint8_t requires(*u.count > 0) ensures(*u.count < 8) {
 --    let b = *u.buf[*u.head];  *u.head = wrapix(8, uint8_t(*u.head) + 1);  *u.count = *u.count - 1;  return b; }`
 abbrev pub pop : ProcCore
 pop = record (procedure (codes "pop") (Ref false (Param 0) (Struct 0) ∷ []) (Some u8) (u8 ∷ [])
-    (Let 1 (read u8 (slot_of u (read (Ix 8) (head_of u))))
-    ∷ Store (head_of u) (WrapIndex (plain (Ix 8)) (chain u8 (site 4 Overflow ∷ []) Add (Cast (plain u8) (read (Ix 8) (head_of u))) (constant u8 1)))
-    ∷ Store (count_of u) (chain u8 (site 5 Overflow ∷ []) Sub (read u8 (count_of u)) (constant u8 1))
+    (Let 1 (read u8 (slot_of (Param 0) u (read (Ix 8) (head_of (Param 0) u))))
+    ∷ Store (head_of (Param 0) u) (WrapIndex (plain (Ix 8)) (chain u8 (site 4 Overflow ∷ []) Add (Cast (plain u8) (read (Ix 8) (head_of (Param 0) u))) (constant u8 1)))
+    ∷ Store (count_of (Param 0) u) (chain u8 (site 5 Overflow ∷ []) Sub (read u8 (count_of (Param 0) u)) (constant u8 1))
     ∷ Return (Some (local u8 1)) ∷ [])) {
       exported = false;
-      contracts = record { before = true; cond = chain Truth [] Gt (read u8 (count_of u)) (constant u8 0); check = site 2 Pre }
-          ∷ record { before = false; cond = chain Truth [] Lt (read u8 (count_of u)) (constant u8 8); check = site 3 Post } ∷ [];
+      contracts = record { before = true; cond = chain Truth [] Gt (read u8 (count_of (Param 0) u)) (constant u8 0); check = site 2 Pre }
+          ∷ record { before = false; cond = chain Truth [] Lt (read u8 (count_of (Param 0) u)) (constant u8 8); check = site 3 Post } ∷ [];
     }
 
 -- `export proc setup(m : uint8_t) { *ctrl = set(set(*ctrl, enable, true), mode, m); }`
@@ -120,20 +124,23 @@ abbrev pub tick : ProcCore
 tick = procedure (codes "tick") [] None []
     (Store ticks (chain u16 (site 8 Overflow ∷ []) Add (read u16 ticks) (constant u16 1))
     ∷ Call (call_of 3 [])
-    ∷ If (chain Truth [] Lt (read u8 (count_of uart)) (constant u8 8))
+    ∷ If (chain Truth [] Lt (read u8 (count_of Global uart)) (constant u8 8))
     (stmts (Call (call_of 0 (uart ∷ Cast (with_checks u8 (site 9 CastSite ∷ [])) (chain u16 (site 10 DivZero ∷ []) Rem (read u16 ticks) (constant u16 256)) ∷ [])) ∷ [])) ∷ [])
 
 -- `export proc drain() { if *uart.count > 0 { let b = pop(uart); send(b); } }`
 abbrev pub drain : ProcCore
 drain = procedure (codes "drain") [] None (u8 ∷ [])
-    (If (chain Truth [] Gt (read u8 (count_of uart)) (constant u8 0)) (stmts (LetCall 0 (call_of 1 (uart ∷ [])) ∷ Call (import_with 1 (local u8 0 ∷ [])) ∷ [])) ∷ [])
+    (If (chain Truth [] Gt (read u8 (count_of Global uart)) (constant u8 0)) (stmts (LetCall 0 (call_of 1 (uart ∷ [])) ∷ Call (import_with 1 (local u8 0 ∷ [])) ∷ [])) ∷ [])
+
+abbrev pub ten_zeros : List ℤ
+ten_zeros = pos 0 ∷ pos 0 ∷ pos 0 ∷ pos 0 ∷ pos 0 ∷ pos 0 ∷ pos 0 ∷ pos 0 ∷ pos 0 ∷ pos 0 ∷ []
 
 -- `area ctrl : Ctrl;`, `area uart : struct Uart;`, `area ticks : uint16_t;`, `import led(on : bool);`, `import send(byte : uint8_t);`
 abbrev pub driver : ModuleCore
 driver = record {
   structs = types;
   layouts = ctrl_layout ∷ [];
-  areas = stored_area (codes "ctrl") (Bits 0) (pos 0 ∷ []) ∷ record { name = codes "uart"; constant = false; area = Struct 0; first = [] } ∷ stored_area (codes "ticks") u16 (pos 0 ∷ []) ∷ [];
+  areas = stored_area (codes "ctrl") (Bits 0) (pos 0 ∷ []) ∷ record { name = codes "uart"; constant = false; area = Struct 0; first = ten_zeros } ∷ stored_area (codes "ticks") u16 (pos 0 ∷ []) ∷ [];
   imports = record { name = codes "led"; params = Truth ∷ []; result = None } ∷ record { name = codes "send"; params = u8 ∷ []; result = None } ∷ [];
   procs = push ∷ pop ∷ setup ∷ blink ∷ tick ∷ drain ∷ [];
 }
@@ -142,9 +149,6 @@ driver = record {
 
 abbrev pub areas_with : ℕ → List ℤ → ℕ → List AreaCells
 areas_with c cells t = cells_of (codes "ctrl") (pos c ∷ []) ∷ cells_of (codes "uart") cells ∷ cells_of (codes "ticks") (pos t ∷ []) ∷ []
-
-abbrev pub ten_zeros : List ℤ
-ten_zeros = pos 0 ∷ pos 0 ∷ pos 0 ∷ pos 0 ∷ pos 0 ∷ pos 0 ∷ pos 0 ∷ pos 0 ∷ pos 0 ∷ pos 0 ∷ []
 
 abbrev pub set_up_script : ℕ → Script
 set_up_script m = script ((codes "setup", pos m ∷ []) ∷ []) []

@@ -1,5 +1,6 @@
 -- How small modules, scripts and what comes of them are written in the examples.
-use Rattle.std.specs.Prelude.{ℕ, ℤ, pos, true, false, List, [], ◌∷◌, map, Option, Some, None}
+use Rattle.std.specs.Prelude.{ℕ, ℤ, pos, true, false, List, [], ◌∷◌, map, Option, Some, None, ◌++◌, codes}
+use Rattle.std.specs.List.{zip}
 use Rattle.iv_script.specs.declared.AreaCells.{AreaCells}
 use Rattle.iv_script.specs.declared.End.{End}
 use Rattle.iv_script.specs.declared.End.TheVariants.{Going}
@@ -13,7 +14,7 @@ use Rattle.area_types.specs.Syntax.{Name, ValueType, Ref, Area, Stored}
 use Rattle.area_types.specs.declared.region.Region.TheVariants.{Global}
 use Rattle.core_tree.specs.declared.Check.{Check}
 use Rattle.core_tree.specs.declared.SiteKind.{SiteKind}
-use Rattle.core_tree.specs.Syntax.{ModuleCore, AreaCore, ImportCore, ProcCore, Label, ExprCore, Number, Local, AreaName, Prefix, Binary, Whole, StmtCore, StmtsCore, NoStmts, MoreStmts}
+use Rattle.core_tree.specs.Syntax.{ModuleCore, AreaCore, ImportCore, ProcCore, ParamCore, Label, ExprCore, Number, Local, AreaName, Prefix, Binary, Whole, StmtCore, StmtsCore, NoStmts, MoreStmts}
 
 -- ---- expressions
 
@@ -52,15 +53,18 @@ abbrev pub stmts : List StmtCore → StmtsCore
 stmts [] = NoStmts
 stmts (s ∷ ss) = MoreStmts s (stmts ss)
 
--- an exported procedure, with the types of its parameters and of its further locals
+abbrev pub param : Name × ValueType → ParamCore
+param x = record { name = x.0; ty = x.1 }
+
+-- an exported procedure, with the types of its parameters, at most three, and of its further locals
 abbrev pub procedure : Name → List ValueType → Option ValueType → List ValueType → List StmtCore → ProcCore
 procedure name params result more body = record {
   name = name;
   exported = true;
-  params = map (λ t. record { name = []; ty = t }) params;
+  params = map param (zip (codes "x" ∷ codes "y" ∷ codes "z" ∷ []) params);
   result = result;
   contracts = [];
-  locals = more;
+  locals = params ++ more;
   body = stmts body;
 }
 

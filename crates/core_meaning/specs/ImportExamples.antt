@@ -44,7 +44,7 @@ abbrev pub cell : ExprCore
 cell = area (Stored u8) 0
 
 abbrev pub getting : ModuleCore
-getting = module_of (stored_area (codes "a") u8 [] ∷ []) (record { name = codes "get"; params = []; result = Some (plain.Int U8) } ∷ [])
+getting = module_of (stored_area (codes "a") u8 (pos 0 ∷ []) ∷ []) (record { name = codes "get"; params = []; result = Some (plain.Int U8) } ∷ [])
     (procedure (codes "two") [] None (u8 ∷ u8 ∷ []) (LetCall 0 (importing []) ∷ Store cell (local u8 0) ∷ LetCall 1 (importing []) ∷ Store cell (local u8 1) ∷ []) ∷ [])
 
 abbrev pub got : List (List ℤ) → ℕ → Outcome

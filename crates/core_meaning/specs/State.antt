@@ -11,8 +11,8 @@ use Rattle.core_tree.specs.Syntax.{ModuleCore, AreaCore}
 use Rattle.core_meaning.specs.Values.{Value, Ref}
 use Rattle.core_meaning.specs.Areas.{Held, Areas, AreaState, Live, in_map, filled, mark_from, take_from, put_at}
 
--- The names in scope in a call, by number, with their values, the latest first. Its local areas are those from `first` on that are in
--- the map: numbers are taken in order, and the areas of the calls that it made are gone.
+-- The names in scope in a call, by number, with their values, the latest first. Its local areas are those in the map from the number
+-- `first` on, up to the `first` of the call that it waits for: numbers are taken in order, and the areas of calls that have ended are gone.
 pub record Frame : Type 0 where
   pub names : List (ℕ × Value)
   pub first : ℕ

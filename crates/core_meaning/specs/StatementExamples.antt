@@ -5,10 +5,11 @@ use Rattle.iv_script.specs.declared.End.{End}
 use Rattle.iv_script.specs.declared.End.TheVariants.{Ended, Stopped}
 use Rattle.iv_script.specs.declared.Event.{Event}
 use Rattle.iv_script.specs.declared.Outcome.{Outcome}
-use Rattle.ivory_tree.specs.declared.BinOp.TheVariants.{Add, WrapAdd, WrapMul, Lt, Gt}
-use Rattle.area_types.specs.Syntax.{Name, ValueType, Truth, Int, Ix, Stored}
-use Rattle.core_tree.specs.declared.SiteKind.TheVariants.{Overflow, Index, Assert as AssertSite, Pre, Post}
-use Rattle.core_tree.specs.Syntax.{ModuleCore, ProcCore, ContractCore, ExprCore, Outcome as Result, Cast, ToIndex, Cond, Whole, StmtCore, Let, LetCall, Store, If, IfElse, Map, Upto, Downto, Forever, Break, Return, Assert, NoAlloc, NoBreak, NoReturn}
+use Rattle.ivory_tree.specs.declared.BinOp.TheVariants.{Div, Add, WrapAdd, WrapMul, Lt, Gt}
+use Rattle.area_types.specs.Syntax.{Name, ValueType, Truth, Int, Ix, Stored, Ref, Area, Array}
+use Rattle.area_types.specs.declared.region.Region.TheVariants.{Global, Own}
+use Rattle.core_tree.specs.declared.SiteKind.TheVariants.{Overflow, DivZero, Index, Assert as AssertSite, Pre, Post}
+use Rattle.core_tree.specs.Syntax.{ModuleCore, ProcCore, ContractCore, ExprCore, Outcome as Result, Cast, ToIndex, Cond, Element, Whole, One, Many, NoInits, MoreInits, StmtCore, Let, LetCall, Alloc, Store, Copy, Call, If, IfElse, Map, Upto, Downto, Forever, Break, Return, Assert, NoAlloc, NoBreak, NoReturn}
 use Rattle.core_meaning.specs.Run.{run_src}
 use Rattle.core_meaning.specs.ExampleForms.{plain, site, with_checks, constant, local, area, read, chain, with_op, stmts, procedure, stored_area, module_of, script, shown, going, cells_of, ret, gave}
 
@@ -17,7 +18,7 @@ u8 = Int U8
 
 -- `area n : uint8_t;`, and procedures over it
 abbrev pub over_n : List ProcCore → ModuleCore
-over_n procs = module_of (stored_area (codes "n") u8 [] ∷ []) [] procs
+over_n procs = module_of (stored_area (codes "n") u8 (pos 0 ∷ []) ∷ []) [] procs
 
 abbrev pub n : ExprCore
 n = area (Stored u8) 0
@@ -85,6 +86,45 @@ pub record TurnExamples : Type 0 where
   pub left_early : after_loop (Forever (stmts (increment 0 ∷ Break ∷ []))) 5 ≡ going []
   -- a return leaves them all
   pub returned : after_loop (Forever (stmts (Map 0 3 (stmts (increment 0 ∷ Return None ∷ [])) ∷ []))) 8 ≡ gone 1
+
+-- ---- order: which of two checks that fail stops the run
+
+-- `1 / 0`
+abbrev pub failing : ℕ → ExprCore
+failing k = chain u8 (site k DivZero ∷ []) Div (constant u8 1) (constant u8 0)
+
+abbrev pub zeros : List ℤ
+zeros = pos 0 ∷ pos 0 ∷ pos 0 ∷ pos 0 ∷ []
+
+abbrev pub bytes : Area
+bytes = Array 2 (Stored u8)
+
+-- `area d : [2][2] uint8_t;`, `import two(a : uint8_t, b : uint8_t);`, and a procedure of one statement
+abbrev pub over_d : List ValueType → StmtCore → ModuleCore
+over_d locals s = module_of
+    (record { name = codes "d"; constant = false; area = Array 2 bytes; first = zeros } ∷ []) (record { name = codes "two"; params = u8 ∷ u8 ∷ []; result = None } ∷ [])
+    (procedure (codes "go") [] None locals (s ∷ []) ∷ [])
+
+-- `d[toix(2, 5)]`, and `d[toix(2, 5)][0]`
+abbrev pub past : ℕ → ExprCore
+past k = Element (plain (Ref false Global bytes)) (area (Array 2 bytes) 0) (ToIndex (with_checks (Ix 2) (site k Index ∷ [])) (constant u8 5))
+
+abbrev pub cell_past : ℕ → ExprCore
+cell_past k = Whole (plain (Ref false Global (Stored u8))) (Element (plain (Ref false Global (Stored u8))) (past k) (constant (Ix 2) 0))
+
+abbrev pub StopsAt : List ValueType → StmtCore → ℕ → Type 0
+StopsAt locals s k = run_src (over_d locals s) (script ((codes "go", []) ∷ []) []) 10_000 ≡ shown [] (Stopped k) (cells_of (codes "d") zeros ∷ [])
+
+pub record OrderExamples : Type 0 where
+  -- `*d[toix(2, 5)][0] = 1 / 0;`: the value comes before the reference
+  pub store : StopsAt [] (Store (cell_past 0) (failing 1)) 1
+  -- `copy d[toix(2, 5)], d[toix(2, 5)];`: the target comes first
+  pub copy : StopsAt [] (Copy (past 0) (past 1)) 0
+  pub operands : StopsAt (u8 ∷ []) (Let 0 (chain u8 (site 1 Overflow ∷ []) Add (failing 0) (failing 2))) 0
+  pub arguments : StopsAt [] (Call (record { import = true; callee = 0; args = failing 0 ∷ failing 1 ∷ [] })) 0
+  pub elements : StopsAt (Ref false Own bytes ∷ []) (Alloc 0 bytes (Some (Many (MoreInits (One (failing 0)) (MoreInits (One (failing 1)) NoInits))))) 0
+  -- the array comes before its index
+  pub index : StopsAt (Ref false Global (Stored u8) ∷ []) (Let 0 (Element (plain (Ref false Global (Stored u8))) (past 0) (ToIndex (with_checks (Ix 2) (site 1 Index ∷ [])) (constant u8 5)))) 0
 
 -- ---- choices, conditions, blocks that narrow what is allowed
 

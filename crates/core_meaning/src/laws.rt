@@ -1,10 +1,10 @@
-ghost use Rattle.core_meaning.specs.AreaExamples.{CopyExamples, EndExamples, ReferenceExamples};
+ghost use Rattle.core_meaning.specs.AreaExamples.{CopyExamples, EndExamples, InitializerExamples, ReferenceExamples};
 ghost use Rattle.core_meaning.specs.DriverExamples.{DriverExamples};
 ghost use Rattle.core_meaning.specs.ExpressionExamples.{BitExamples, ConversionExamples, NameExamples, PrefixExamples};
 ghost use Rattle.core_meaning.specs.ImportExamples.{CellExamples, ReplyExamples, TickExamples};
 ghost use Rattle.core_meaning.specs.Laws.{ExpressionsChangeNothing, FilledValuesHold, RunsObeyTheirLaws};
 ghost use Rattle.core_meaning.specs.OperatorExamples.{AndExamples, ProductExamples, QuotientExamples, ShiftExamples, SumExamples};
-ghost use Rattle.core_meaning.specs.StatementExamples.{AssertExamples, ChoiceExamples, ContractExamples, LoopExamples, TurnExamples};
+ghost use Rattle.core_meaning.specs.StatementExamples.{AssertExamples, ChoiceExamples, ContractExamples, LoopExamples, OrderExamples, TurnExamples};
 
 /// A run's events only grow with its steps, and its end stays.
 pub fn runs_obey_their_laws()
@@ -44,6 +44,11 @@ pub fn loop_examples()
     ensures turns { TurnExamples }
 {}
 
+/// What is evaluated first.
+pub fn order_examples()
+    ensures { OrderExamples }
+{}
+
 /// Which way a choice goes, and when a condition stops the run.
 pub fn condition_examples()
     ensures choices { ChoiceExamples }
@@ -55,6 +60,7 @@ pub fn condition_examples()
 pub fn area_examples()
     ensures references { ReferenceExamples }
     ensures copies { CopyExamples }
+    ensures initializers { InitializerExamples }
     ensures ends { EndExamples }
 {}
 

@@ -19,3 +19,4 @@ pub mod AreaExamples
 pub mod ImportExamples
 pub mod DriverExamples
 pub mod ExpressionExamples
+pub mod AreaLaws

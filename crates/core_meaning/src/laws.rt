@@ -1,3 +1,4 @@
+ghost use Rattle.core_meaning.specs.AreaLaws.{EarlierAreasStay, MarkedAreasStay, OthersStay, PartsHoldWhatIsPut, TakenAreasAreGone, TypesStay};
 ghost use Rattle.core_meaning.specs.AreaExamples.{CopyExamples, EndExamples, InitializerExamples, ReferenceExamples};
 ghost use Rattle.core_meaning.specs.DriverExamples.{DriverExamples};
 ghost use Rattle.core_meaning.specs.ExpressionExamples.{BitExamples, ConversionExamples, NameExamples, PrefixExamples};
@@ -19,6 +20,16 @@ pub fn expressions_change_nothing()
 /// First values and replies: the cells of a part get the numbers in their order.
 pub fn filled_values_hold()
     ensures { FilledValuesHold }
+{}
+
+/// What a store, the end of a block and the end of a call change in the map of areas, and what they leave.
+pub fn area_laws()
+    ensures parts { PartsHoldWhatIsPut }
+    ensures others { OthersStay }
+    ensures types { TypesStay }
+    ensures marked { MarkedAreasStay }
+    ensures taken { TakenAreasAreGone }
+    ensures earlier { EarlierAreasStay }
 {}
 
 /// What each form of expression gives, and for which steps.

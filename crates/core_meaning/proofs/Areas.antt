@@ -1,10 +1,8 @@
 -- What changes in the map of areas, and what stays: by the places of the map.
-use Rattle.std.proofs.Common.{◌≡◌, ◌≢◌, ℕ, ℤ, zero, suc, ◌≤◌, ◌<◌, List, [], ◌∷◌, Some, None, refl, ap, arith}
-use Rattle.std.specs.Prelude.{slice_get}
-use Rattle.type_trees.specs.Trees.{part}
+use Rattle.std.proofs.Common.{◌≡◌, ℕ, ℤ, zero, suc, List, [], ◌∷◌, Some, refl, ap, arith}
 use Rattle.type_trees.specs.Values as tree
 use Rattle.type_trees.specs.Values.{Cell, Parts, Nil, Cons, at, at_row, put, put_row}
-use Rattle.core_meaning.specs.Areas.{Held, AreaState, Live, Marked, Gone, Areas, type_at, held_at, put_at, put_part, mark_from, marked, take_from}
+use Rattle.core_meaning.specs.Areas.{Held, Live, Marked, Gone}
 use Rattle.core_meaning.specs.AreaLaws.{PartsHoldWhatIsPut, OthersStay, TypesStay, MarkedAreasStay, TakenAreasAreGone, EarlierAreasStay}
 
 mutual

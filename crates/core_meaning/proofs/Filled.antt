@@ -1,9 +1,8 @@
 -- A value that is filled from a list of numbers has the form of its type, and its cells hold the numbers in order.
-use Rattle.std.proofs.Common.{◌≡◌, ℕ, zero, suc, ◌+◌, ◌*◌, ◌≤◌, ℤ, List, [], ◌∷◌, ◌++◌, length, drop, refl, sym, ◌∙◌, ap, subst, arith}
+use Rattle.std.proofs.Common.{◌≡◌, ℕ, zero, suc, ◌+◌, ◌*◌, ◌≤◌, ℤ, List, [], ◌∷◌, ◌++◌, length, drop, refl, sym, ◌∙◌, ap, arith}
 use Rattle.std.proofs.lemmas.List.{drop-drop, length-drop, append_assoc}
-use Rattle.std.specs.Prelude.{pos}
 use Rattle.type_trees.specs.Trees.{Leaf, Many, Struct, End, Field, count, count_row}
-use Rattle.type_trees.specs.Values.{Fits, FitsRow, EachOf, HasForm, cells, cells_row}
+use Rattle.type_trees.specs.Values.{Fits, FitsRow, EachOf, cells, cells_row}
 use Rattle.area_types.specs.Syntax.{ValueType}
 use Rattle.area_types.specs.Trees.{Written, WrittenRow}
 use Rattle.core_meaning.specs.Areas.{Held, filled, filled_row, filled_each}
@@ -39,12 +38,13 @@ joined xs ys vs a b c e h g =
 some_left : (vs : List ℤ) (a b c : ℕ) → a + b ≡ c → c ≤ length vs → b ≤ length (drop a vs)
 some_left vs a b c e le = omega (arith, e, le, length-drop a vs)
 
-each_holds : (n size : ℕ) (one : List ℤ → Held) → ((vs : List ℤ) → size ≤ length vs → cells (one vs) ++ drop size vs ≡ vs) → (vs : List ℤ) → n * size ≤ length vs → cells_row (filled_each n size one vs) ++ drop (n * size) vs ≡ vs
+each_holds : (n size : ℕ) (one : List ℤ → Held) → ((vs : List ℤ) → size ≤ length vs → cells (one vs) ++ drop size vs ≡ vs) → (vs : List ℤ) → n * size ≤ length vs
+    → cells_row (filled_each n size one vs) ++ drop (n * size) vs ≡ vs
 each_holds zero size one h vs le = let e : zero * size ≡ 0 = omega arith in ap (λ k. drop k vs) e
 each_holds (suc n) size one h vs le =
     let e : size + n * size ≡ suc n * size = omega arith in
     joined (cells (one vs)) (cells_row (filled_each n size one (drop size vs))) vs size (n * size) (suc n * size) e (h vs (omega (arith, e, le)))
-      (each_holds n size one h (drop size vs) (some_left vs size (n * size) (suc n * size) e le))
+    (each_holds n size one h (drop size vs) (some_left vs size (n * size) (suc n * size) e le))
 
 mutual
   pub filled_holds : (a : Written) (vs : List ℤ) → count a ≤ length vs → cells (filled a vs) ++ drop (count a) vs ≡ vs
@@ -57,7 +57,7 @@ mutual
   row_holds End vs le = refl
   row_holds (Field f a r) vs le =
       joined (cells (filled a vs)) (cells_row (filled_row r (drop (count a) vs))) vs (count a) (count_row r) (count a + count_row r) refl (filled_holds a vs (omega (arith, le)))
-        (row_holds r (drop (count a) vs) (some_left vs (count a) (count_row r) (count a + count_row r) refl le))
+      (row_holds r (drop (count a) vs) (some_left vs (count a) (count_row r) (count a + count_row r) refl le))
 
 pub filled_values_hold : FilledValuesHold
 filled_values_hold a vs enough = (filled_has_form a vs, filled_holds a vs enough)

@@ -1,7 +1,7 @@
 -- Expressions change nothing, form by form.
 use Rattle.std.proofs.Common.{◌≡◌, ℕ, zero, suc, ℤ, Bool, true, false, List, [], ◌∷◌, Option, Some, None, Ok, Err, refl, sym, ◌∙◌, ap, subst}
-use Rattle.std.specs.Prelude.{pos, not, if◌then◌else◌, is_some, IsTrue}
-use Rattle.step_semantics.specs.Steps.{World, FailedCheck, NoMeaning, Progress, Finished, Halted, Exhausted, Part, give, halt, after, bind, tick, by_state}
+use Rattle.std.specs.Prelude.{pos, not, if◌then◌else◌, is_some}
+use Rattle.step_semantics.specs.Steps.{World, FailedCheck, Progress, Finished, Halted, Exhausted, Part, give, halt, after, bind, tick, by_state}
 use Rattle.int_ops.specs.Operators.{truth}
 use Rattle.int_ops.specs.declared.Op.TheVariants as op
 use Rattle.ivory_tree.specs.declared.BinOp.{BinOp}
@@ -11,9 +11,9 @@ use Rattle.ivory_tree.specs.declared.PrefixOp.TheVariants.{Neg, Not, Flip, Deref
 use Rattle.area_types.specs.Syntax.{ValueType}
 use Rattle.core_tree.specs.Syntax.{ModuleCore, Label, ExprCore, Number, Outcome, Local, AreaName, Cast, ToIndex, WrapIndex, MakeBits, Raw, SetField, Prefix, Binary, Field, Element, Cond, Whole, type_of}
 use Rattle.core_meaning.specs.Values.{Value, Num, Ref}
-use Rattle.core_meaning.specs.Areas.{Areas, type_at, cell_at}
+use Rattle.core_meaning.specs.Areas.{type_at, cell_at}
 use Rattle.core_meaning.specs.State.{State, value_of, seen}
-use Rattle.core_meaning.specs.Checks.{lost, passes, Answer, tests_of, answered, checked, on_number, on_truth, on_reference, on_some}
+use Rattle.core_meaning.specs.Checks.{passes, Answer, tests_of, answered, checked, on_number, on_truth, on_reference, on_some}
 use Rattle.core_meaning.specs.Answers.{operation, operator_of, cast_to, index_to, wrapped_to, field_set}
 use Rattle.core_meaning.specs.Expressions.{found, read_name, of_number, of_numbers, negated, number_behind, choice, prefixed, combined, field_behind, element_behind, eval}
 use Rattle.core_meaning.specs.Gives.{Given, Leads, NameGives, OfNumber, OfNumbers, is_true, Negated, CellGives, Chosen, Choice, FieldGives, ElementGives, PrefixGives, BinaryGives, Gives, Rests}
@@ -21,7 +21,8 @@ use Rattle.core_meaning.specs.Laws.{ExpressionsChangeNothing}
 
 module _ (core : ModuleCore) where
   -- a part that changes nothing, and what comes after it, in the same world and state
-  rests_after : {A B : Type 0} (given : A → Type 0) (gives : B → Type 0) (w : World) (s : State) (r : Progress State A) (next : A → Part State B) → Rests core given w s r → ((a : A) → given a → (m : ℕ) → Rests core gives w s (next a m w s)) → Rests core gives w s (after r next)
+  rests_after : {A B : Type 0} (given : A → Type 0) (gives : B → Type 0) (w : World) (s : State) (r : Progress State A) (next : A → Part State B)
+      → Rests core given w s r → ((a : A) → given a → (m : ℕ) → Rests core gives w s (next a m w s)) → Rests core gives w s (after r next)
   rests_after given gives w s (Finished a u t m) next h f =
       subst (λ x. Rests core gives w s (next a m x t)) (sym h.1) (subst (λ y. Rests core gives w s (next a m w y)) (sym h.2) (f a h.0 m))
   rests_after given gives w s (Halted how u cells) next h f = h
@@ -31,11 +32,13 @@ module _ (core : ModuleCore) where
   rests_tick given w s part h zero = refl
   rests_tick given w s part h (suc n) = h n
 
-  rests_if : {A : Type 0} (given : A → Type 0) (w : World) (s : State) (b : Bool) (first second : Part State A) (n : ℕ) → (b ≡ true → Rests core given w s (first n w s)) → (b ≡ false → Rests core given w s (second n w s)) → Rests core given w s ((if b then first else second) n w s)
+  rests_if : {A : Type 0} (given : A → Type 0) (w : World) (s : State) (b : Bool) (first second : Part State A) (n : ℕ)
+      → (b ≡ true → Rests core given w s (first n w s)) → (b ≡ false → Rests core given w s (second n w s)) → Rests core given w s ((if b then first else second) n w s)
   rests_if given w s true first second n h g = h refl
   rests_if given w s false first second n h g = g refl
 
-  rests_passes : {A : Type 0} (given : A → Type 0) (w : World) (s : State) (checks : List (ℕ × Bool)) (part : Part State A) (n : ℕ) → Rests core given w s (part n w s) → Rests core given w s (passes core checks part n w s)
+  rests_passes : {A : Type 0} (given : A → Type 0) (w : World) (s : State) (checks : List (ℕ × Bool)) (part : Part State A) (n : ℕ) → Rests core given w s (part n w s)
+      → Rests core given w s (passes core checks part n w s)
   rests_passes given w s [] part n h = h
   rests_passes given w s (check ∷ checks) part n h = rests_if given w s check.1 (passes core checks part) (halt (seen core) (FailedCheck check.0)) n (λ e. rests_passes given w s checks part n h) (λ e. (refl, refl))
 
@@ -57,19 +60,23 @@ module _ (core : ModuleCore) where
   rests_weaker given gives w s (Halted how u cells) f h = h
   rests_weaker given gives w s (Exhausted u) f h = h
 
-  rests_on_number : {A : Type 0} (gives : A → Type 0) (w : World) (s : State) (x : Value) (next : ℤ → Part State A) (n : ℕ) → ((v : ℤ) → x ≡ Num v → Rests core gives w s (next v n w s)) → Rests core gives w s (on_number core x next n w s)
+  rests_on_number : {A : Type 0} (gives : A → Type 0) (w : World) (s : State) (x : Value) (next : ℤ → Part State A) (n : ℕ) → ((v : ℤ) → x ≡ Num v → Rests core gives w s (next v n w s))
+      → Rests core gives w s (on_number core x next n w s)
   rests_on_number gives w s (Num v) next n h = h v refl
   rests_on_number gives w s (Ref k path) next n h = (refl, refl)
 
-  rests_on_truth : {A : Type 0} (gives : A → Type 0) (w : World) (s : State) (x : Value) (next : Bool → Part State A) (n : ℕ) → ((v : ℤ) → x ≡ Num v → Rests core gives w s (next (is_true v) n w s)) → Rests core gives w s (on_truth core x next n w s)
+  rests_on_truth : {A : Type 0} (gives : A → Type 0) (w : World) (s : State) (x : Value) (next : Bool → Part State A) (n : ℕ)
+      → ((v : ℤ) → x ≡ Num v → Rests core gives w s (next (is_true v) n w s)) → Rests core gives w s (on_truth core x next n w s)
   rests_on_truth gives w s (Num v) next n h = h v refl
   rests_on_truth gives w s (Ref k path) next n h = (refl, refl)
 
-  rests_on_reference : {A : Type 0} (gives : A → Type 0) (w : World) (s : State) (x : Value) (next : ℕ → List ℕ → Part State A) (n : ℕ) → ((k : ℕ) (path : List ℕ) → x ≡ Ref k path → Rests core gives w s (next k path n w s)) → Rests core gives w s (on_reference core x next n w s)
+  rests_on_reference : {A : Type 0} (gives : A → Type 0) (w : World) (s : State) (x : Value) (next : ℕ → List ℕ → Part State A) (n : ℕ)
+      → ((k : ℕ) (path : List ℕ) → x ≡ Ref k path → Rests core gives w s (next k path n w s)) → Rests core gives w s (on_reference core x next n w s)
   rests_on_reference gives w s (Num v) next n h = (refl, refl)
   rests_on_reference gives w s (Ref k path) next n h = h k path refl
 
-  rests_on_some : {A B : Type 0} (gives : B → Type 0) (w : World) (s : State) (x : Option A) (next : A → Part State B) (n : ℕ) → ((a : A) → x ≡ Some a → Rests core gives w s (next a n w s)) → Rests core gives w s (on_some core x next n w s)
+  rests_on_some : {A B : Type 0} (gives : B → Type 0) (w : World) (s : State) (x : Option A) (next : A → Part State B) (n : ℕ) → ((a : A) → x ≡ Some a → Rests core gives w s (next a n w s))
+      → Rests core gives w s (on_some core x next n w s)
   rests_on_some gives w s None next n h = (refl, refl)
   rests_on_some gives w s (Some a) next n h = h a refl
 
@@ -85,41 +92,49 @@ module _ (core : ModuleCore) where
 
     name_rests : (look : State → Option Value) → Rest (NameGives s (look s)) (read_name core look)
     name_rests look n =
-        rests_on_some (NameGives s (look s)) w s (look s) (found core s.areas) n (λ x e. rests_weaker (λ y. (y ≡ x) × Leads s.areas y) (NameGives s (look s)) w s (found core s.areas x n w s) (λ y h. record { has = e ∙ ap Some (sym h.0); leads = h.1 }) (found_rests x n))
+        rests_on_some (NameGives s (look s)) w s (look s) (found core s.areas) n (λ x e.
+        rests_weaker (λ y. (y ≡ x) × Leads s.areas y) (NameGives s (look s)) w s (found core s.areas x n w s) (λ y h. record { has = e ∙ ap Some (sym h.0); leads = h.1 }) (found_rests x n))
 
     of_number_rests : (l : Label) (answer : ℤ → Answer) (given : Given) (part : Part State Value) → Rest given part → Rest (OfNumber answer given) (of_number core l answer part)
     of_number_rests l answer given part h n =
-        rests_after given (OfNumber answer given) w s (part n w s) (λ x. on_number core x (λ a. checked core l (answer a))) (h n) (λ x g m. rests_on_number (OfNumber answer given) w s x (λ a. checked core l (answer a)) m (λ a e. rests_weaker (Answered (answer a)) (OfNumber answer given) w s (checked core l (answer a) m w s) (λ y r. record { operand = a; is_given = subst given e g; number = r.0; answers = r.1; is = r.2 }) (rests_checked w s l (answer a) m)))
+        rests_after given (OfNumber answer given) w s (part n w s) (λ x. on_number core x (λ a. checked core l (answer a))) (h n) (λ x g m.
+        rests_on_number (OfNumber answer given) w s x (λ a. checked core l (answer a)) m (λ a e.
+        rests_weaker (Answered (answer a)) (OfNumber answer given) w s (checked core l (answer a) m w s)
+        (λ y r. record { operand = a; is_given = subst given e g; number = r.0; answers = r.1; is = r.2 }) (rests_checked w s l (answer a) m)))
 
-    of_numbers_rests : (l : Label) (answer : ℤ → ℤ → Answer) (given gives : Given) (left right : Part State Value) → Rest given left → Rest gives right → Rest (OfNumbers answer given gives) (of_numbers core l answer left right)
+    of_numbers_rests : (l : Label) (answer : ℤ → ℤ → Answer) (given gives : Given) (left right : Part State Value) → Rest given left → Rest gives right
+        → Rest (OfNumbers answer given gives) (of_numbers core l answer left right)
     of_numbers_rests l answer given gives left right h f n =
         rests_after given (OfNumbers answer given gives) w s (left n w s) (λ x. bind right (λ y. on_number core x (λ a. on_number core y (λ b. checked core l (answer a b))))) (h n) (λ x g m.
-          rests_after gives (OfNumbers answer given gives) w s (right m w s) (λ y. on_number core x (λ a. on_number core y (λ b. checked core l (answer a b)))) (f m) (λ y i k.
-            rests_on_number (OfNumbers answer given gives) w s x (λ a. on_number core y (λ b. checked core l (answer a b))) k (λ a e.
-              rests_on_number (OfNumbers answer given gives) w s y (λ b. checked core l (answer a b)) k (λ b d.
-                rests_weaker (Answered (answer a b)) (OfNumbers answer given gives) w s (checked core l (answer a b) k w s) (λ z r. record { first = a; first_given = subst given e g; second = b; second_given = subst gives d i; number = r.0; answers = r.1; is = r.2 }) (rests_checked w s l (answer a b) k)))))
+        rests_after gives (OfNumbers answer given gives) w s (right m w s) (λ y. on_number core x (λ a. on_number core y (λ b. checked core l (answer a b)))) (f m) (λ y i k.
+        rests_on_number (OfNumbers answer given gives) w s x (λ a. on_number core y (λ b. checked core l (answer a b))) k (λ a e.
+        rests_on_number (OfNumbers answer given gives) w s y (λ b. checked core l (answer a b)) k (λ b d.
+        rests_weaker (Answered (answer a b)) (OfNumbers answer given gives) w s (checked core l (answer a b) k w s)
+        (λ z r. record { first = a; first_given = subst given e g; second = b; second_given = subst gives d i; number = r.0; answers = r.1; is = r.2 })
+        (rests_checked w s l (answer a b) k)))))
 
     negated_rests : (given : Given) (part : Part State Value) → Rest given part → Rest (Negated given) (negated core part)
     negated_rests given part h n =
         rests_after given (Negated given) w s (part n w s) (λ x. on_truth core x (λ holds. tick (give (Num (truth (not holds)))))) (h n) (λ x g m.
-          rests_on_truth (Negated given) w s x (λ holds. tick (give (Num (truth (not holds))))) m (λ v e.
-            rests_tick (Negated given) w s (give (Num (truth (not (is_true v))))) (λ k. (record { operand = v; is_given = subst given e g; is = refl }, refl, refl)) m))
+        rests_on_truth (Negated given) w s x (λ holds. tick (give (Num (truth (not holds))))) m (λ v e.
+        rests_tick (Negated given) w s (give (Num (truth (not (is_true v))))) (λ k. (record { operand = v; is_given = subst given e g; is = refl }, refl, refl)) m))
 
     cell_rests : (given : Given) (part : Part State Value) → Rest given part → Rest (CellGives s.areas given) (number_behind core part)
     cell_rests given part h n =
         rests_after given (CellGives s.areas given) w s (part n w s) (λ x. on_reference core x (λ k path. by_state (λ t. on_some core (cell_at t.areas k path) (λ v. tick (give (Num v)))))) (h n) (λ x g m.
-          rests_on_reference (CellGives s.areas given) w s x (λ k path. by_state (λ t. on_some core (cell_at t.areas k path) (λ v. tick (give (Num v))))) m (λ k path e.
-            rests_on_some (CellGives s.areas given) w s (cell_at s.areas k path) (λ v. tick (give (Num v))) m (λ v d.
-              rests_tick (CellGives s.areas given) w s (give (Num v)) (λ j. (record { area = k; path = path; is_given = subst given e g; number = v; holds = d; is = refl }, refl, refl)) m)))
+        rests_on_reference (CellGives s.areas given) w s x (λ k path. by_state (λ t. on_some core (cell_at t.areas k path) (λ v. tick (give (Num v))))) m (λ k path e.
+        rests_on_some (CellGives s.areas given) w s (cell_at s.areas k path) (λ v. tick (give (Num v))) m (λ v d.
+        rests_tick (CellGives s.areas given) w s (give (Num v)) (λ j. (record { area = k; path = path; is_given = subst given e g; number = v; holds = d; is = refl }, refl, refl)) m)))
 
-    choice_rests : (given gives other : Given) (test first second : Part State Value) → Rest given test → Rest gives first → Rest other second → Rest (Choice given gives other) (choice core test first second)
+    choice_rests : (given gives other : Given) (test first second : Part State Value) → Rest given test → Rest gives first → Rest other second
+        → Rest (Choice given gives other) (choice core test first second)
     choice_rests given gives other test first second h f i n =
         rests_after given (Choice given gives other) w s (test n w s) (λ x. on_truth core x (λ holds. tick (if holds then first else second))) (h n) (λ x g m.
-          rests_on_truth (Choice given gives other) w s x (λ holds. tick (if holds then first else second)) m (λ v e.
-            rests_tick (Choice given gives other) w s (if is_true v then first else second) (λ k.
-              rests_if (Choice given gives other) w s (is_true v) first second k
-                (λ b. rests_weaker gives (Choice given gives other) w s (first k w s) (λ y r. record { operand = v; is_given = subst given e g; chosen = subst (λ c. Chosen c (gives y) (other y)) (sym b) r }) (f k))
-                (λ b. rests_weaker other (Choice given gives other) w s (second k w s) (λ y r. record { operand = v; is_given = subst given e g; chosen = subst (λ c. Chosen c (gives y) (other y)) (sym b) r }) (i k))) m))
+        rests_on_truth (Choice given gives other) w s x (λ holds. tick (if holds then first else second)) m (λ v e.
+        rests_tick (Choice given gives other) w s (if is_true v then first else second) (λ k.
+        rests_if (Choice given gives other) w s (is_true v) first second k
+        (λ b. rests_weaker gives (Choice given gives other) w s (first k w s) (λ y r. record { operand = v; is_given = subst given e g; chosen = subst (λ c. Chosen c (gives y) (other y)) (sym b) r }) (f k))
+        (λ b. rests_weaker other (Choice given gives other) w s (second k w s) (λ y r. record { operand = v; is_given = subst given e g; chosen = subst (λ c. Chosen c (gives y) (other y)) (sym b) r }) (i k))) m))
 
     prefixed_rests : (l : Label) (o : PrefixOp) (ty : ValueType) (given : Given) (part : Part State Value) → Rest given part → Rest (PrefixGives s.areas o ty given) (prefixed core l o ty part)
     prefixed_rests l Neg ty given part h = of_number_rests l (λ a. operation op.Neg ty a a) given part h
@@ -127,7 +142,8 @@ module _ (core : ModuleCore) where
     prefixed_rests l Flip ty given part h = of_number_rests l (λ a. operation op.Not ty a a) given part h
     prefixed_rests l Deref ty given part h = cell_rests given part h
 
-    combined_rests : (l : Label) (o : BinOp) (ty : ValueType) (given gives : Given) (left right : Part State Value) → Rest given left → Rest gives right → Rest (BinaryGives o ty given gives) (combined core l o ty left right)
+    combined_rests : (l : Label) (o : BinOp) (ty : ValueType) (given gives : Given) (left right : Part State Value) → Rest given left → Rest gives right
+        → Rest (BinaryGives o ty given gives) (combined core l o ty left right)
     combined_rests l OrElse ty given gives left right h f = choice_rests given (λ y. y ≡ Num (pos 1)) gives left (give (Num (pos 1))) right h (λ n. (refl, refl, refl)) f
     combined_rests l AndAlso ty given gives left right h f = choice_rests given gives (λ y. y ≡ Num (pos 0)) left right (give (Num (pos 0))) h f (λ n. (refl, refl, refl))
     combined_rests l o ty given gives left right h f = of_numbers_rests l (operation (operator_of o) ty) given gives left right h f
@@ -162,7 +178,7 @@ module _ (core : ModuleCore) where
           rests_after (Gives core outcome s e) (Gives core outcome s (Field l e field)) w s (eval core outcome e n w s) (field_behind core (type_of e) field) (eval_rests e n) (λ x g m. field_rests (type_of e) field (Gives core outcome s e) x g m)
       eval_rests (Element l e index) n =
           rests_after (Gives core outcome s e) (Gives core outcome s (Element l e index)) w s (eval core outcome e n w s) (λ x. bind (eval core outcome index) (element_behind core x)) (eval_rests e n) (λ x g m.
-            rests_after (Gives core outcome s index) (Gives core outcome s (Element l e index)) w s (eval core outcome index m w s) (element_behind core x) (eval_rests index m) (λ y h k. element_rests (Gives core outcome s e) (Gives core outcome s index) x y g h k))
+          rests_after (Gives core outcome s index) (Gives core outcome s (Element l e index)) w s (eval core outcome index m w s) (element_behind core x) (eval_rests index m) (λ y h k. element_rests (Gives core outcome s e) (Gives core outcome s index) x y g h k))
       eval_rests (Cond l test first second) n =
           choice_rests (Gives core outcome s test) (Gives core outcome s first) (Gives core outcome s second) (eval core outcome test) (eval core outcome first) (eval core outcome second) (eval_rests test) (eval_rests first) (eval_rests second) n
       eval_rests (Whole l e) n = eval_rests e n

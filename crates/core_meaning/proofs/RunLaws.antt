@@ -50,8 +50,8 @@ module _ (core : ModuleCore) where
   entry_among_lawful earlier l number [] name values = lost_lawful core
   entry_among_lawful earlier l number (p ∷ procs) name values =
       choice_lawful _ _ (bind_lawful _ (entry_result core) (procedure_call_lawful earlier l p (map Num values)) entry_result_lawful)
-        (entry_among_lawful (with_procedure core earlier number p) (with_procedure_lawful earlier l number p) (suc number) procs name values)
-        (p.exported && same_word p.name name)
+      (entry_among_lawful (with_procedure core earlier number p) (with_procedure_lawful earlier l number p) (suc number) procs name values)
+      (p.exported && same_word p.name name)
 
 pub runs_obey : RunsObeyTheirLaws
 runs_obey core script =

@@ -83,7 +83,7 @@ turn_lawful : (number : ℕ) (body : Part State Flow) → Lawful body → (i : �
 turn_lawful number body l i = block_lawful leave _ (also_lawful (naming number (Num (pos i))) body (naming_lawful number _) l)
 
 module _ (core : ModuleCore) (calls : Calls) (ensured : Ensured)
-  (calls_lawful : (number : ℕ) (args : List Value) → Lawful (calls number args)) (ensured_lawful : (result : Option Value) → Lawful (ensured result)) where
+    (calls_lawful : (number : ℕ) (args : List Value) → Lawful (calls number args)) (ensured_lawful : (result : Option Value) → Lawful (ensured result)) where
   returned_lawful : (result : Option Value) → Lawful (returned ensured result)
   returned_lawful result = tick_lawful _ (bind_lawful _ _ (ensured_lawful result) (λ t. give_lawful _))
 
@@ -102,7 +102,7 @@ module _ (core : ModuleCore) (calls : Calls) (ensured : Ensured)
         bind_lawful _ _ (eval_lawful core None e) (λ x. on_number_lawful core x _ (λ last. tick_lawful _ (counted_lawful suc _ (turn_lawful number _ (exec_all_lawful a)) (unsigned_abs last) 0)))
     exec_lawful (Downto number length e a) =
         bind_lawful _ _ (eval_lawful core None e) (λ x. on_number_lawful core x _ (λ first.
-          tick_lawful _ (counted_lawful pred _ (turn_lawful number _ (exec_all_lawful a)) (unsigned_abs first) (unsigned_abs first))))
+        tick_lawful _ (counted_lawful pred _ (turn_lawful number _ (exec_all_lawful a)) (unsigned_abs first) (unsigned_abs first))))
     exec_lawful (Forever a) = forever_lawful _ (block_lawful leave _ (exec_all_lawful a))
     exec_lawful Break = tick_lawful _ (give_lawful Broke)
     exec_lawful (Return None) = returned_lawful None

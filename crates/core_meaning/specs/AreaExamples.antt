@@ -11,7 +11,7 @@ use Rattle.type_trees.specs.Values.{Cell, Parts, Nil, Cons}
 use Rattle.area_types.specs.Syntax.{ValueType, Truth, Int, Ref, Area, Stored, Array}
 use Rattle.area_types.specs.declared.region.Region.TheVariants.{Own, Param}
 use Rattle.area_types.specs.Trees.{Written}
-use Rattle.core_tree.specs.Syntax.{InitCore, ModuleCore, ProcCore, ExprCore, One, Many as Braces, NoInits, MoreInits, Element, StmtCore, LetCall, Alloc, Store, Copy, If, Return}
+use Rattle.core_tree.specs.Syntax.{InitCore, InitsCore, ModuleCore, ProcCore, ExprCore, One, Many as Braces, NoInits, MoreInits, Element, StmtCore, LetCall, Alloc, Store, Copy, If, Return}
 use Rattle.core_meaning.specs.Values.{Num, Ref as Refers}
 use Rattle.core_meaning.specs.Areas as areas
 use Rattle.core_meaning.specs.Areas.{Held, AreaState, Live, Marked, Gone}
@@ -89,6 +89,10 @@ pub record CopyExamples : Type 0 where
 
 -- ---- what becomes of areas
 
+abbrev pub inits : List InitCore → InitsCore
+inits [] = NoInits
+inits (i ∷ is) = MoreInits i (inits is)
+
 -- a module with nothing in it
 abbrev pub empty : ModuleCore
 empty = module_of [] [] []
@@ -113,9 +117,13 @@ row_type = Ref false Own (Array 2 byte)
 abbrev pub second : ExprCore
 second = Element (plain own) (local row_type 0) (constant u8 1)
 
+-- values in braces
+abbrev pub braces : List InitCore → InitCore
+braces is = Braces (inits is)
+
 -- `alloc y : [2] uint8_t = {7};`
 abbrev pub allocating : StmtCore
-allocating = Alloc 3 (Array 2 byte) (Some (Braces (MoreInits (One (constant u8 7)) NoInits)))
+allocating = Alloc 3 (Array 2 byte) (Some (braces (One (constant u8 7) ∷ [])))
 
 abbrev pub run_one : StmtCore → ProcCore
 run_one s = procedure [] [] None [] (s ∷ [])
@@ -132,10 +140,10 @@ mixed_value a x y = Parts (Cons (Cell (pos a)) (Cons (Parts (Cons x (Cons y Nil)
 
 pub record InitializerExamples : Type 0 where
   -- `= {1, {{2}, {3, 4}}}`
-  pub braces : (w : World) (s : State) → first_value empty (Some (Braces (MoreInits (byte_init 1) (MoreInits (Braces (MoreInits (Braces (MoreInits (byte_init 2) NoInits)) (MoreInits (Braces (MoreInits (byte_init 3) (MoreInits (byte_init 4) NoInits))) NoInits))) NoInits)))) mixed 0 w s
+  pub all : (w : World) (s : State) → first_value empty (Some (braces (byte_init 1 ∷ braces (braces (byte_init 2 ∷ []) ∷ braces (byte_init 3 ∷ byte_init 4 ∷ []) ∷ []) ∷ []))) mixed 0 w s
       ≡ Finished (mixed_value 1 (pair 2 0) (pair 3 4)) w s 0
   -- `= {1}`, and none
-  pub fewer : (w : World) (s : State) → first_value empty (Some (Braces (MoreInits (byte_init 1) NoInits))) mixed 0 w s ≡ Finished (mixed_value 1 (pair 0 0) (pair 0 0)) w s 0
+  pub fewer : (w : World) (s : State) → first_value empty (Some (braces (byte_init 1 ∷ []))) mixed 0 w s ≡ Finished (mixed_value 1 (pair 0 0) (pair 0 0)) w s 0
   pub none : (w : World) (s : State) → first_value empty None mixed 0 w s ≡ Finished (mixed_value 0 (pair 0 0) (pair 0 0)) w s 0
 
 pub record EndExamples : Type 0 where

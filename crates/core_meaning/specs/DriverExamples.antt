@@ -35,7 +35,7 @@ ctrl_layout = record {
   name = codes "Ctrl";
   word = U8;
   fields = record { name = codes "enable"; low = 0; width = 1; truth = true } ∷ record { name = codes "mode"; low = 1; width = 3; truth = false }
-    ∷ record { name = codes "level"; low = 4; width = 4; truth = false } ∷ [];
+      ∷ record { name = codes "level"; low = 4; width = 4; truth = false } ∷ [];
 }
 
 -- `struct Uart { head : ix(8); count : uint8_t; buf : [8] uint8_t; }`

@@ -2,8 +2,7 @@
 -- is that of the state in which it is evaluated.
 use Rattle.std.specs.Prelude.{◌≡◌, ℕ, ℤ, pos, unsigned_abs, Bool, true, false, not, List, [], ◌∷◌, ◌++◌, Option, Some, Ok, is_some, IsTrue}
 use Rattle.std.specs.Ordering.{int_eq}
-use Rattle.iv_script.specs.declared.AreaCells.{AreaCells}
-use Rattle.step_semantics.specs.Steps.{World, Progress, Finished, Halted, Exhausted, Part}
+use Rattle.step_semantics.specs.Steps.{World, Progress, Finished, Halted, Exhausted}
 use Rattle.int_ops.specs.Operators.{truth}
 use Rattle.int_ops.specs.declared.Op.TheVariants as op
 use Rattle.ivory_tree.specs.declared.BinOp.{BinOp}
@@ -12,7 +11,7 @@ use Rattle.ivory_tree.specs.declared.PrefixOp.{PrefixOp}
 use Rattle.ivory_tree.specs.declared.PrefixOp.TheVariants.{Neg, Not, Flip, Deref}
 use Rattle.bit_data.specs.Fields.{field_of}
 use Rattle.area_types.specs.Syntax.{ValueType}
-use Rattle.core_tree.specs.Syntax.{ModuleCore, Label, ExprCore, Number, Outcome, Local, AreaName, Cast, ToIndex, WrapIndex, MakeBits, Raw, SetField, Prefix, Binary, Field, Element, Cond, Whole, type_of}
+use Rattle.core_tree.specs.Syntax.{ModuleCore, ExprCore, Number, Outcome, Local, AreaName, Cast, ToIndex, WrapIndex, MakeBits, Raw, SetField, Prefix, Binary, Field, Element, Cond, Whole, type_of}
 use Rattle.core_meaning.specs.Values.{Value, Num, Ref}
 use Rattle.core_meaning.specs.Areas.{Areas, type_at, cell_at}
 use Rattle.core_meaning.specs.State.{State, value_of, seen}

@@ -77,8 +77,8 @@ filling = module_of (record { name = codes "d"; constant = false; area = row; fi
 abbrev pub swapping : ModuleCore
 swapping = module_of (record { name = codes "d"; constant = false; area = row; first = pos 1 ∷ pos 2 ∷ [] } ∷ stored_area (codes "e") u8 (pos 3 ∷ []) ∷ [])
     (record { name = codes "swap"; params = Truth ∷ Ref false (Param 0) row ∷ Ref true (Param 1) (Stored u8) ∷ Ref false (Param 0) (Stored u8) ∷ []; result = Some (plain.Int U16) } ∷ [])
-    (procedure (codes "f") [] (Some (Int U16)) (Int U16 ∷ []) 
-      (LetCall 0 (importing (constant Truth 1 ∷ area row 0 ∷ area (Stored u8) 1 ∷ area (Stored u8) 1 ∷ [])) ∷ Return (Some (local (Int U16) 0)) ∷ []) ∷ [])
+    (procedure (codes "f") [] (Some (Int U16)) (Int U16 ∷ [])
+    (LetCall 0 (importing (constant Truth 1 ∷ area row 0 ∷ area (Stored u8) 1 ∷ area (Stored u8) 1 ∷ [])) ∷ Return (Some (local (Int U16) 0)) ∷ []) ∷ [])
 
 abbrev pub f_with : ModuleCore → List (List ℤ) → ℕ → Outcome
 f_with core replies n = run_src core (script ((codes "f", []) ∷ []) replies) n

@@ -9,9 +9,9 @@ use Rattle.ivory_tree.specs.declared.BinOp.TheVariants as op
 use Rattle.area_types.specs.Syntax.{Name, Truth, Int}
 use Rattle.core_tree.specs.declared.Check.{Check}
 use Rattle.core_tree.specs.declared.SiteKind.TheVariants.{Overflow, DivZero, Shift}
-use Rattle.core_tree.specs.Syntax.{ProcCore, Whole, Return}
+use Rattle.core_tree.specs.Syntax.{ProcCore, Return}
 use Rattle.core_meaning.specs.Run.{run_src}
-use Rattle.core_meaning.specs.ExampleForms.{plain, site, constant, local, chain, procedure, module_of, script, shown, going, gave}
+use Rattle.core_meaning.specs.ExampleForms.{site, constant, local, chain, procedure, module_of, script, shown, going, gave}
 
 -- `export proc NAME(a : K, b : K) -> K { return a OP b; }`
 abbrev pub operating : Name → IntKind → BinOp → List Check → ProcCore

@@ -8,6 +8,6 @@ mod laws;
 
 pub use laws::{
     area_examples, area_laws, condition_examples, driver_examples, expression_examples,
-    expressions_change_nothing, filled_values_hold, import_examples,
-    loop_examples, operator_examples, order_examples, runs_obey_their_laws,
+    expressions_change_nothing, filled_values_hold, import_examples, loop_examples,
+    operator_examples, order_examples, runs_obey_their_laws,
 };

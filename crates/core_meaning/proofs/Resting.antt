@@ -21,18 +21,18 @@ use Rattle.core_meaning.specs.Laws.{ExpressionsChangeNothing}
 
 module _ (core : ModuleCore) where
   -- a part that changes nothing, and what comes after it, in the same world and state
-  rests_after : {A B : Type 0} (given : A → Type 0) (gives : B → Type 0) (w : World) (s : State) (r : Progress State A) (next : A → Part State B)
+  pub rests_after : {A B : Type 0} (given : A → Type 0) (gives : B → Type 0) (w : World) (s : State) (r : Progress State A) (next : A → Part State B)
       → Rests core given w s r → ((a : A) → given a → (m : ℕ) → Rests core gives w s (next a m w s)) → Rests core gives w s (after r next)
   rests_after given gives w s (Finished a u t m) next h f =
       subst (λ x. Rests core gives w s (next a m x t)) (sym h.1) (subst (λ y. Rests core gives w s (next a m w y)) (sym h.2) (f a h.0 m))
   rests_after given gives w s (Halted how u cells) next h f = h
   rests_after given gives w s (Exhausted u) next h f = h
 
-  rests_tick : {A : Type 0} (given : A → Type 0) (w : World) (s : State) (part : Part State A) → ((m : ℕ) → Rests core given w s (part m w s)) → (n : ℕ) → Rests core given w s (tick part n w s)
+  pub rests_tick : {A : Type 0} (given : A → Type 0) (w : World) (s : State) (part : Part State A) → ((m : ℕ) → Rests core given w s (part m w s)) → (n : ℕ) → Rests core given w s (tick part n w s)
   rests_tick given w s part h zero = refl
   rests_tick given w s part h (suc n) = h n
 
-  rests_if : {A : Type 0} (given : A → Type 0) (w : World) (s : State) (b : Bool) (first second : Part State A) (n : ℕ)
+  pub rests_if : {A : Type 0} (given : A → Type 0) (w : World) (s : State) (b : Bool) (first second : Part State A) (n : ℕ)
       → (b ≡ true → Rests core given w s (first n w s)) → (b ≡ false → Rests core given w s (second n w s)) → Rests core given w s ((if b then first else second) n w s)
   rests_if given w s true first second n h g = h refl
   rests_if given w s false first second n h g = g refl
@@ -55,17 +55,17 @@ module _ (core : ModuleCore) where
       rests_tick (Answered answer) w s (passes core (tests_of answer l.checks) (answered core answer)) (λ m. rests_passes (Answered answer) w s (tests_of answer l.checks) (answered core answer) m (rests_answered w s answer m)) n
 
   -- what is weaker
-  rests_weaker : {A : Type 0} (given gives : A → Type 0) (w : World) (s : State) (r : Progress State A) → ((a : A) → given a → gives a) → Rests core given w s r → Rests core gives w s r
+  pub rests_weaker : {A : Type 0} (given gives : A → Type 0) (w : World) (s : State) (r : Progress State A) → ((a : A) → given a → gives a) → Rests core given w s r → Rests core gives w s r
   rests_weaker given gives w s (Finished a u t m) f h = (f a h.0, h.1, h.2)
   rests_weaker given gives w s (Halted how u cells) f h = h
   rests_weaker given gives w s (Exhausted u) f h = h
 
-  rests_on_number : {A : Type 0} (gives : A → Type 0) (w : World) (s : State) (x : Value) (next : ℤ → Part State A) (n : ℕ) → ((v : ℤ) → x ≡ Num v → Rests core gives w s (next v n w s))
+  pub rests_on_number : {A : Type 0} (gives : A → Type 0) (w : World) (s : State) (x : Value) (next : ℤ → Part State A) (n : ℕ) → ((v : ℤ) → x ≡ Num v → Rests core gives w s (next v n w s))
       → Rests core gives w s (on_number core x next n w s)
   rests_on_number gives w s (Num v) next n h = h v refl
   rests_on_number gives w s (Ref k path) next n h = (refl, refl)
 
-  rests_on_truth : {A : Type 0} (gives : A → Type 0) (w : World) (s : State) (x : Value) (next : Bool → Part State A) (n : ℕ)
+  pub rests_on_truth : {A : Type 0} (gives : A → Type 0) (w : World) (s : State) (x : Value) (next : Bool → Part State A) (n : ℕ)
       → ((v : ℤ) → x ≡ Num v → Rests core gives w s (next (is_true v) n w s)) → Rests core gives w s (on_truth core x next n w s)
   rests_on_truth gives w s (Num v) next n h = h v refl
   rests_on_truth gives w s (Ref k path) next n h = (refl, refl)
@@ -75,7 +75,7 @@ module _ (core : ModuleCore) where
   rests_on_reference gives w s (Num v) next n h = (refl, refl)
   rests_on_reference gives w s (Ref k path) next n h = h k path refl
 
-  rests_on_some : {A B : Type 0} (gives : B → Type 0) (w : World) (s : State) (x : Option A) (next : A → Part State B) (n : ℕ) → ((a : A) → x ≡ Some a → Rests core gives w s (next a n w s))
+  pub rests_on_some : {A B : Type 0} (gives : B → Type 0) (w : World) (s : State) (x : Option A) (next : A → Part State B) (n : ℕ) → ((a : A) → x ≡ Some a → Rests core gives w s (next a n w s))
       → Rests core gives w s (on_some core x next n w s)
   rests_on_some gives w s None next n h = (refl, refl)
   rests_on_some gives w s (Some a) next n h = h a refl

@@ -1,6 +1,6 @@
 -- What an expression gives in a state, apart from its steps: each form by what its operands give. An expression changes nothing, so its value
 -- is that of the state in which it is evaluated.
-use Rattle.std.specs.Prelude.{◌≡◌, ℕ, ℤ, pos, unsigned_abs, Bool, true, false, not, List, [], ◌∷◌, ◌++◌, Option, Some, Ok, is_some, IsTrue}
+use Rattle.std.specs.Prelude.{◌≡◌, ℕ, ℤ, pos, unsigned_abs, Bool, true, false, not, List, [], ◌∷◌, ◌++◌, Option, Some, None, Ok, is_some, IsTrue}
 use Rattle.std.specs.Ordering.{int_eq}
 use Rattle.step_semantics.specs.Steps.{World, Progress, Finished, Halted, Exhausted}
 use Rattle.int_ops.specs.Operators.{truth}
@@ -10,13 +10,17 @@ use Rattle.ivory_tree.specs.declared.BinOp.TheVariants.{OrElse, AndAlso}
 use Rattle.ivory_tree.specs.declared.PrefixOp.{PrefixOp}
 use Rattle.ivory_tree.specs.declared.PrefixOp.TheVariants.{Neg, Not, Flip, Deref}
 use Rattle.bit_data.specs.Fields.{field_of}
+use Rattle.type_trees.specs.Values as tree
+use Rattle.type_trees.specs.Values.{Cell, Parts, Nil, Cons}
 use Rattle.area_types.specs.Syntax.{ValueType}
-use Rattle.core_tree.specs.Syntax.{ModuleCore, ExprCore, Number, Outcome, Local, AreaName, Cast, ToIndex, WrapIndex, MakeBits, Raw, SetField, Prefix, Binary, Field, Element, Cond, Whole, type_of}
+use Rattle.area_types.specs.Trees.{Written}
+use Rattle.core_tree.specs.Syntax.{ModuleCore, ExprCore, Number, Outcome, Local, AreaName, Cast, ToIndex, WrapIndex, MakeBits, Raw, SetField, Prefix, Binary, Field, Element, Cond, Whole, type_of, ContractCore, InitCore, One, Many as Braces, InitsCore, NoInits, MoreInits}
 use Rattle.core_meaning.specs.Values.{Value, Num, Ref}
-use Rattle.core_meaning.specs.Areas.{Areas, type_at, cell_at}
+use Rattle.core_meaning.specs.Areas.{Held, Areas, type_at, cell_at, filled}
 use Rattle.core_meaning.specs.State.{State, value_of, seen}
 use Rattle.core_meaning.specs.Checks.{Answer}
 use Rattle.core_meaning.specs.Answers.{operator_of, operation, cast_to, index_to, wrapped_to, layout_of, field_set}
+use Rattle.core_meaning.specs.Initializers.{part_types, zeros}
 
 -- the values that an operand may give
 abbrev pub Given : Type 1
@@ -122,6 +126,44 @@ module _ (core : ModuleCore) (outcome : Option Value) (s : State) where
   Gives (Element l e index) x = ElementGives (Gives e) (Gives index) x
   Gives (Cond l test first second) x = Choice (Gives test) (Gives first) (Gives second) x
   Gives (Whole l e) x = Gives e x
+
+-- ---- arguments, conditions and initializers
+
+abbrev pub GivesAll : ModuleCore → State → List ExprCore → List Value → Type 0
+GivesAll core s [] [] = Unit {0}
+GivesAll core s [] (v ∷ vs) = ⊥
+GivesAll core s (e ∷ es) [] = ⊥
+GivesAll core s (e ∷ es) (v ∷ vs) = Gives core None s e v × GivesAll core s es vs
+
+pub record Holds (core : ModuleCore) (outcome : Option Value) (s : State) (cond : ExprCore) : Type 0 where
+  pub number : ℤ
+  pub is_given : Gives core outcome s cond (Num number)
+  pub holds : IsTrue (is_true number)
+
+abbrev pub AllHold : ModuleCore → Option Value → State → List ContractCore → Type 0
+AllHold core outcome s [] = Unit {0}
+AllHold core outcome s (c ∷ cs) = Holds core outcome s c.cond × AllHold core outcome s cs
+
+pub record CellIs (given : Given) (held : Held) : Type 0 where
+  pub number : ℤ
+  pub is_given : given (Num number)
+  pub is : held ≡ Cell number
+
+module _ (core : ModuleCore) (s : State) where
+  abbrev mutual
+    pub InitGives : InitCore → Written → Held → Type 0
+    InitGives (One e) ty held = CellIs (Gives core None s e) held
+    InitGives (Braces is) ty held = (vs : tree.Values ℤ) × InitsGive is (part_types ty) vs × (held ≡ Parts vs)
+
+    pub InitsGive : InitsCore → List Written → tree.Values ℤ → Type 0
+    InitsGive NoInits types vs = vs ≡ zeros types
+    InitsGive (MoreInits i is) [] vs = ⊥
+    InitsGive (MoreInits i is) (ty ∷ types) Nil = ⊥
+    InitsGive (MoreInits i is) (ty ∷ types) (Cons v vs) = InitGives i ty v × InitsGive is types vs
+
+  abbrev pub FirstGives : Option InitCore → Written → Held → Type 0
+  FirstGives None ty held = held ≡ filled ty []
+  FirstGives (Some i) ty held = InitGives i ty held
 
 -- ---- a part that changes nothing
 

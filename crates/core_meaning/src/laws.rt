@@ -3,7 +3,7 @@ ghost use Rattle.core_meaning.specs.AreaExamples.{CopyExamples, EndExamples, Ini
 ghost use Rattle.core_meaning.specs.DriverExamples.{DriverExamples};
 ghost use Rattle.core_meaning.specs.ExpressionExamples.{BitExamples, ConversionExamples, NameExamples, PrefixExamples};
 ghost use Rattle.core_meaning.specs.ImportExamples.{CellExamples, ReplyExamples, TickExamples};
-ghost use Rattle.core_meaning.specs.Laws.{ExpressionsChangeNothing, FilledValuesHold, RunsObeyTheirLaws};
+ghost use Rattle.core_meaning.specs.Laws.{ArgumentsChangeNothing, ConditionsChangeNothing, ExpressionsChangeNothing, InitializersChangeNothing, FilledValuesHold, RunsObeyTheirLaws};
 ghost use Rattle.core_meaning.specs.OperatorExamples.{AndExamples, ProductExamples, QuotientExamples, ShiftExamples, SumExamples};
 ghost use Rattle.core_meaning.specs.StatementExamples.{AssertExamples, ChoiceExamples, ContractExamples, LoopExamples, OrderExamples, TurnExamples};
 
@@ -14,7 +14,10 @@ pub fn runs_obey_their_laws()
 
 /// An expression leaves the state and the world as they are, and its value does not depend on its steps.
 pub fn expressions_change_nothing()
-    ensures { ExpressionsChangeNothing }
+    ensures expressions { ExpressionsChangeNothing }
+    ensures arguments { ArgumentsChangeNothing }
+    ensures conditions { ConditionsChangeNothing }
+    ensures initializers { InitializersChangeNothing }
 {}
 
 /// First values and replies: the cells of a part get the numbers in their order.

@@ -1,6 +1,8 @@
 //! The text of the C subset: what bytes spell a unit, and when its names and types are right.
 #![tactic(auto)]
 
+mod fault;
 mod laws;
 
+pub use fault::{CFault, CWhy};
 pub use laws::right_units_read_back;

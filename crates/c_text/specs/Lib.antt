@@ -13,4 +13,7 @@ pub mod StatementRules
 pub mod UnitRules
 pub mod Right
 pub mod ReadsBack
+pub mod FirstFault
+pub mod Faults
+pub mod FaultExamples
 pub mod Laws

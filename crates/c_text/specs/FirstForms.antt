@@ -1,5 +1,5 @@
 -- Units of the first forms: externs over scalars, and functions without parameters whose statements are calls with constants.
--- Of their texts it is proved that no other unit of the subset is spelled by them.
+-- Of these it is proved that their texts tell them apart.
 use Rattle.std.specs.Prelude.{◌≡◌, ◌^◌, ◌<◌, ⊤, [], All}
 use Rattle.c_ast.specs.declared.types.CType.{CType}
 use Rattle.c_ast.specs.declared.types.CType.TheVariants.{Void, Value, Pointer}

@@ -17,6 +17,6 @@ UnitsNestAsTheyAre = (u : TranslationUnit) → InSubset u → nested u ≤ 300 �
 abbrev pub RightUnitsReadBack : Type 0
 RightUnitsReadBack = (u : TranslationUnit) (target : Target) → InSubset u → Right target u → nested u ≤ 300 → ReadsBack u (unit_text u) target
 
--- the bytes that spell a unit of the first forms spell no other
+-- of units of the first forms no two are spelled by the same bytes
 abbrev pub FirstTextsTellUnitsApart : Type 0
-FirstTextsTellUnitsApart = (u v : TranslationUnit) (bytes : List ℕ) → FirstForms u → Spells u bytes → Spells v bytes → v ≡ u
+FirstTextsTellUnitsApart = (u v : TranslationUnit) (bytes : List ℕ) → FirstForms u → FirstForms v → Spells u bytes → Spells v bytes → u ≡ v

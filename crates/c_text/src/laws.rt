@@ -23,3 +23,8 @@ pub fn fault_examples()
     ensures faults { FaultExamples }
     ensures structs { StructFaultExamples }
 {}
+
+/// Bytes spell at most one unit of the first forms.
+pub fn first_texts_tell_units_apart()
+    ensures { FirstTextsTellUnitsApart }
+{}

@@ -5,4 +5,6 @@ mod fault;
 mod laws;
 
 pub use fault::{CFault, CWhy};
-pub use laws::{fault_examples, right_or_at_fault, right_units_read_back};
+pub use laws::{
+    fault_examples, first_texts_tell_units_apart, right_or_at_fault, right_units_read_back,
+};

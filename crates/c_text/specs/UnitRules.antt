@@ -30,8 +30,6 @@ file_scope structs functions objects = record { structs = structs; functions = f
 abbrev pub file_name : Names → ℕ → Name → List Demand
 file_name names at x = ask at NameIsOfFile (is_of_file x) ++ new_name names at x
 
--- ---- structs
-
 abbrev pub is_allowed_length : Option ℕ → Bool
 is_allowed_length None = true
 is_allowed_length (Some n) = nat_le 1 n && nat_le n 65535

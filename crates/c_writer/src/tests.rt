@@ -295,18 +295,24 @@ fn params(alloc: Global) -> Result<Seq<CParam>, Fail> {
     list(alloc, [a, p])
 }
 
-fn names_held(alloc: Global) -> Result<[CStmt; 2], Fail> {
+/// `uint8_t *const q = iv_f();`
+fn pointer_held(alloc: Global) -> Result<CStmt, Fail> {
     let none = CCall {
         name: word(alloc, "iv_f")?,
         args: Seq::new(alloc),
     };
-    let q = CStmt::ConstCall(word(alloc, "q")?, CType::Pointer(false, byte()), none);
+    Ok(CStmt::ConstCall(word(alloc, "q")?, CType::Pointer(false, byte()), none))
+}
+
+/// `uint8_t const n = (*q);`
+fn value_held(alloc: Global) -> Result<CStmt, Fail> {
     let pointed = CExpr::Read(CPlace::At(boxed(alloc, read(alloc, "q")?)?));
-    Ok([q, CStmt::Const(word(alloc, "n")?, int(IntKind::U8), pointed)])
+    Ok(CStmt::Const(word(alloc, "n")?, int(IntKind::U8), pointed))
 }
 
 fn every_statement(alloc: Global) -> Result<CFunction, Fail> {
-    let [q, n] = names_held(alloc)?;
+    let q = pointer_held(alloc)?;
+    let n = value_held(alloc)?;
     let s = CStmt::Object(word(alloc, "s")?, point(alloc)?, None);
     let guarded = CStmt::If(read(alloc, "a")?, list(alloc, [element_assigned(alloc)?])?, None);
     let body = [q, n, s, guarded, branches(alloc)?, pointers_given(alloc)?];

@@ -8,8 +8,8 @@ use crate::stmt::put_stmts;
 use crate::unit::put_unit;
 use crate::write_unit;
 use c_ast::{
-    CBase, CBinary, CCall, CExpr, CExtern, CFunction, CInit, CMember, CObject, CParam, CPlace, CScalar, CStmt,
-    CStruct, CType, CUnary, CUnit, Suffix,
+    CBase, CBinary, CCall, CExpr, CExtern, CFunction, CInit, CMember, CObject, CParam, CPlace,
+    CScalar, CStmt, CStruct, CType, CUnary, CUnit, Suffix,
 };
 use iv_base::{MemSink, SinkFault};
 use iv_words::{Box, IntKind, Memory, Seq, Word};
@@ -210,7 +210,13 @@ fn point_struct(alloc: Global) -> Result<CStruct, Fail> {
     })
 }
 
-fn object(alloc: Global, name: &str, constant: bool, base: CBase, init: CInit) -> Result<CObject, Fail> {
+fn object(
+    alloc: Global,
+    name: &str,
+    constant: bool,
+    base: CBase,
+    init: CInit,
+) -> Result<CObject, Fail> {
     Ok(CObject {
         name: word(alloc, name)?,
         constant,
@@ -276,7 +282,10 @@ fn branches(alloc: Global) -> Result<CStmt, Fail> {
 
 /// `iv_get(((struct iv_P *)p), (a ? q : (&iv_c)));`
 fn pointers_given(alloc: Global) -> Result<CStmt, Fail> {
-    let cast = CExpr::Cast(CType::Pointer(false, point(alloc)?), boxed(alloc, read(alloc, "p")?)?);
+    let cast = CExpr::Cast(
+        CType::Pointer(false, point(alloc)?),
+        boxed(alloc, read(alloc, "p")?)?,
+    );
     let address = boxed(alloc, CExpr::Address(var(alloc, "iv_c")?))?;
     let first = boxed(alloc, read(alloc, "q")?)?;
     let cond = CExpr::Cond(boxed(alloc, read(alloc, "a")?)?, first, address);
@@ -314,7 +323,11 @@ fn every_statement(alloc: Global) -> Result<CFunction, Fail> {
     let q = pointer_held(alloc)?;
     let n = value_held(alloc)?;
     let s = CStmt::Object(word(alloc, "s")?, point(alloc)?, None);
-    let guarded = CStmt::If(read(alloc, "a")?, list(alloc, [element_assigned(alloc)?])?, None);
+    let guarded = CStmt::If(
+        read(alloc, "a")?,
+        list(alloc, [element_assigned(alloc)?])?,
+        None,
+    );
     let body = [q, n, s, guarded, branches(alloc)?, pointers_given(alloc)?];
     Ok(CFunction {
         hidden: false,

@@ -1,0 +1,4 @@
+pub mod Open
+pub mod Nesting
+pub mod Law
+pub mod Examples

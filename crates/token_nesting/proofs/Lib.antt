@@ -1,1 +1,4 @@
 pub mod Scan
+pub mod Ends
+pub mod Tokens
+pub mod Expressions

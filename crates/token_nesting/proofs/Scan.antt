@@ -47,20 +47,38 @@ before_that {p} {q} {a} {b} {c} {os} {now} {end} {f} {g} one two passes = record
 pub and : {q : List Token → Bool} {a b c : Before} {os now end : List Open} {f g : Row Token} → Scan anything a os f b now → Scan q b now g c end → Scan q a os (f ++ g) c end
 and one two = before_that one two (λ rest e. refl)
 
+-- with more that may not follow
+pub stricter : {p q : List Token → Bool} {a c : Before} {os now : List Open} {f : Row Token} → Scan p a os f c now → ((rest : List Token) → q rest ≡ true → p rest ≡ true) → Scan q a os f c now
+stricter one passes = record { told = λ rest e. one.told rest (passes rest e) }
+
+-- to another place that tells the same of what follows
+pub onward : {p : List Token → Bool} {a b c : Before} {os now end : List Open} {f : Row Token} → Scan p a os f b now
+    → ((rest : List Token) → p rest ≡ true → nestings_from b now rest ≡ nestings_from c end rest) → Scan p a os f c end
+onward {f} one same = record { told = λ rest e. one.told rest e ∙ ap (λ x. depths f ++ x) (same rest e) }
+
+-- nothing at all
+pub nothing : {p : List Token → Bool} {a : Before} {os : List Open} → Scan p a os [] a os
+nothing = record { told = λ rest e. refl }
+
+-- a test that the first token of a row passes
+
+pub first_passes : {A : Type 0} {d : ℕ} (test : TokenKind → Bool) (select : Token → Option A) (x : A) (f : Row Token) → Terminal d select x f
+    → ((t : Token) → select t ≡ Some x → test t.kind ≡ true) → (rest : List Token) → next test (tokens f ++ rest) ≡ true
+first_passes test select x f (m, is, at, found) told rest = ap (λ y. next test (tokens y ++ rest)) is ∙ told m.token found
+
+pub first_of_two : {A : Type 0} {d : ℕ} (test : TokenKind → Bool) (select : Token → Option A) (x : A) (f : Row Token) → Terminal d select x f
+    → ((t : Token) → select t ≡ Some x → test t.kind ≡ true) → (g : Row Token) (rest : List Token) → next test (tokens (f ++ g) ++ rest) ≡ true
+first_of_two test select x f (m, is, at, found) told g rest = ap (λ y. next test (tokens (y ++ g) ++ rest)) is ∙ told m.token found
+
 -- ---- one token
 
-scan_token : {A : Type 0} {d : ℕ} (select : Token → Option A) (x : A) {p : List Token → Bool} {a c : Before} {os now : List Open} (f : Row Token)
-    → Terminal d select x f → ((t : Token) (rest : List Token) → select t ≡ Some x → p rest ≡ true → nestings_from a os (t ∷ rest) ≡ d ∷ nestings_from c now rest)
+pub scan_token : {A : Type 0} {n d : ℕ} (select : Token → Option A) (x : A) {p : List Token → Bool} {a c : Before} {os now : List Open} (f : Row Token) → n ≡ d
+    → Terminal d select x f → ((t : Token) (rest : List Token) → select t ≡ Some x → p rest ≡ true → nestings_from a os (t ∷ rest) ≡ n ∷ nestings_from c now rest)
     → Scan p a os f c now
-scan_token {d = d} select x {p} {a} {c} {os} {now} f (m, is, at, found) told = record {
+scan_token select x {p} {a} {c} {os} {now} f same (m, is, at, found) told = record {
   told = λ rest e.
       ap (λ y. nestings_from a os (tokens y ++ rest)) is
       ∙ told m.token rest found e
-      ∙ ap (λ y. y ∷ nestings_from c now rest) (sym at)
+      ∙ ap (λ y. y ∷ nestings_from c now rest) (same ∙ sym at)
       ∙ ap (λ y. depths y ++ nestings_from c now rest) (sym is);
 }
-
-pub scan_mark : {d : ℕ} {x : Span} {a c : Before} {os now : List Open} {f : Row Token} (m : Mark) → Terminal d (symbol m) x f
-    → ((s : Span) (rest : List Token) → nestings_from a os (marked m s ∷ rest) ≡ d ∷ nestings_from c now rest) → Scan anything a os f c now
-scan_mark {d} {x} {a} {c} {os} {now} {f} m t computes =
-    scan_token (symbol m) x f t (λ u rest e p. at_mark (λ y. nestings_from a os (y ∷ rest)) (d ∷ nestings_from c now rest) m (λ s. computes s rest) u (symbol_passes m u x e))

@@ -149,3 +149,12 @@ told (many (a_link n)) x d row (grammar.more {x = y} {xs} {f} {g} r rs) os at = 
 told (many a_step) x d row grammar.none os at = λ h. nothing
 told (many a_step) x d row (grammar.more {x = y} {xs} {f} {g} r rs) os at = λ h. and (told a_step y d f r os at h) (told (many a_step) xs d g rs os at h)
 told (many s) x d row r os at = tt
+
+pub scan_expression : {d : ℕ} {x : Expr} {f : Row Token} {os : List Open} → length os ≡ d → holds_expression os ≡ true → Spells expression x d f → Scan expression_stops Other os f Operand os
+scan_expression {d} {x} {f} {os} at h r = told expression x d f r os at h
+
+pub scan_value : {d : ℕ} {x : Expr} {f : Row Token} {os : List Open} → length os ≡ d → holds_expression os ≡ true → Spells expression x d f → Scan expression_stops Value os f Operand os
+scan_value at h r = valued_expression r (scan_expression at h r)
+
+pub scan_postfix : {d : ℕ} {x : Expr} {f : Row Token} {os : List Open} → length os ≡ d → holds_operand os ≡ true → Spells postfix x d f → Scan anything Other os f Operand os
+scan_postfix {d} {x} {f} {os} at h r = told postfix x d f r os at h

@@ -2,3 +2,8 @@ pub mod Scan
 pub mod Ends
 pub mod Tokens
 pub mod Expressions
+pub mod Grounds
+pub mod Types
+pub mod Inits
+pub mod Lists
+pub mod Statements

@@ -7,3 +7,5 @@ pub mod Types
 pub mod Inits
 pub mod Lists
 pub mod Statements
+pub mod Items
+pub mod Modules

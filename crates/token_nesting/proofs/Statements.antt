@@ -56,14 +56,18 @@ else_stays (Bracket ∷ os) h = refl
 else_stays (Branch ∷ os) h = refl
 else_stays os h = cc
 
--- a block ends the expression before it
-filled_stops : (g : Row Token) → (g ≡ [] → ⊥) → ((m : Entry Token) (row : Row Token) → g ≡ m ∷ row → is_mark mark.OpenBrace m.token ≡ true) → (rest : List Token) → expression_stops (tokens g ++ rest) ≡ true
-filled_stops [] filled first rest = absurd (filled refl)
-filled_stops (m ∷ g) filled first rest = at_mark (λ t. ends_expression t.kind) true mark.OpenBrace (λ s. refl) m.token (first m g refl)
+-- a block begins with a `{`
+filled_passes : (q : TokenKind → Bool) → q (kind.Mark mark.OpenBrace) ≡ true → (g : Row Token) → (g ≡ [] → ⊥) → ((m : Entry Token) (row : Row Token) → g ≡ m ∷ row → is_mark mark.OpenBrace m.token ≡ true)
+    → (rest : List Token) → next q (tokens g ++ rest) ≡ true
+filled_passes q is [] filled first rest = absurd (filled refl)
+filled_passes q is (m ∷ g) filled first rest = at_mark (λ t. q t.kind) true mark.OpenBrace (λ s. is) m.token (first m g refl)
+
+pub block_passes : {d : ℕ} {b : Block} {g : Row Token} (q : TokenKind → Bool) → q (kind.Mark mark.OpenBrace) ≡ true → Spells block b d g → (rest : List Token) → next q (tokens g ++ rest) ≡ true
+block_passes {d} {b} {g} q brace r rest =
+    filled_passes q brace g (λ none. (starts_block d).nonempty b (subst (Spells block b d) none r)) (λ m row is. (starts_block d).first b m row (subst (Spells block b d) is r)) rest
 
 block_stops : {d : ℕ} {b : Block} {g : Row Token} → Spells block b d g → (rest : List Token) → expression_stops (tokens g ++ rest) ≡ true
-block_stops {d} {b} {g} r rest =
-    filled_stops g (λ none. (starts_block d).nonempty b (subst (Spells block b d) none r)) (λ m row is. (starts_block d).first b m row (subst (Spells block b d) is r)) rest
+block_stops r rest = block_passes ends_expression refl r rest
 
 -- a statement is no `else`
 filled_starts : (g : Row Token) → (g ≡ [] → ⊥) → ((m : Entry Token) (row : Row Token) → g ≡ m ∷ row → begins_statement m.token ≡ true) → (h : Row Token) (rest : List Token) → statement_stops (tokens (g ++ h) ++ rest) ≡ true

@@ -3,6 +3,13 @@
 #![tactic(auto)]
 
 ghost use Rattle.token_nesting.specs.Examples as example;
+ghost use Rattle.token_nesting.specs.Law.{TokensTellNesting};
+
+/// In each text of a module, the tokens alone tell the nesting at each of them, however deep it is.
+#[tactic(auto, using(crate::proofs::Modules::tokens_tell_nesting))]
+pub fn tokens_tell_nesting()
+    ensures { TokensTellNesting }
+{}
 
 /// The arms of `?:`, the first and the last.
 pub fn arms_nest_so()

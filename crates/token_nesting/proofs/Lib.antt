@@ -9,3 +9,4 @@ pub mod Lists
 pub mod Statements
 pub mod Items
 pub mod Modules
+pub mod Limit

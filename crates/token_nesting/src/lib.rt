@@ -4,11 +4,19 @@
 
 ghost use Rattle.token_nesting.specs.Examples as example;
 ghost use Rattle.token_nesting.specs.Law.{TokensTellNesting};
+ghost use Rattle.token_nesting.specs.Limit.{TokensTellTooDeep, TokensTellWithin};
 
 /// In each text of a module, the tokens alone tell the nesting at each of them, however deep it is.
 #[tactic(auto, using(crate::proofs::Modules::tokens_tell_nesting))]
 pub fn tokens_tell_nesting()
     ensures { TokensTellNesting }
+{}
+
+/// So whether a text is a module within a limit of nesting, and where it is too deep, is told without the trees.
+
+pub fn tokens_tell_the_limit()
+    ensures within { TokensTellWithin }
+    ensures too_deep { TokensTellTooDeep }
 {}
 
 /// The arms of `?:`, the first and the last.

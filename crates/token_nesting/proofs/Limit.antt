@@ -37,15 +37,21 @@ abbrev Cut : ℕ → Row Token → List Token → Token → List Token → Type 
 Cut limit all first t rest = (row : Row Token) × (m : Entry Token) × (tail : Row Token) × (all ≡ row ++ m ∷ tail) × (tokens row ≡ first) × (m.token ≡ t) × (tokens tail ≡ rest)
     × (FirstAbove limit (depths all) (length first) → Shallow limit row × (limit < m.depth))
 
+further : (limit : ℕ) (n : Entry Token) (all : Row Token) (u : Token) (first : List Token) (t : Token) (rest : List Token) → n.token ≡ u → Cut limit all first t rest → Cut limit (n ∷ all) (u ∷ first) t rest
+further limit n all u first t rest same (row, m, tail, is, before, here, others, tells) =
+    (n ∷ row, m, tail, ap (λ x. n ∷ x) is, ap (λ x. n.token ∷ x) before ∙ ap (λ y. y ∷ first) same, here, others, λ above. let w = tells above.1 in ((above.0, w.0), w.1))
+
 cut : (limit : ℕ) (all : Row Token) (first : List Token) (t : Token) (rest : List Token) → tokens all ≡ first ++ t ∷ rest → Cut limit all first t rest
 cut limit [] [] t rest e = cc
 cut limit [] (u ∷ first) t rest e = cc
-cut limit (m ∷ all) [] t rest e = let same : m.token ≡ t = cc in let others : tokens all ≡ rest = cc in ([], m, all, refl, refl, same, others, λ above. (tt, above))
+cut limit (m ∷ all) [] t rest e =
+    let same : m.token ≡ t = cc in
+    let others : tokens all ≡ rest = cc in
+    ([], m, all, refl, refl, same, others, λ above. (tt, above))
 cut limit (n ∷ all) (u ∷ first) t rest e =
     let same : n.token ≡ u = cc in
     let others : tokens all ≡ first ++ t ∷ rest = cc in
-    let (row, m, tail, is, before, here, behind_it, tells) = cut limit all first t rest others in
-    (n ∷ row, m, tail, ap (λ x. n ∷ x) is, ap (λ x. n.token ∷ x) before ∙ ap (λ y. y ∷ first) same, here, behind_it, λ above. let w = tells above.1 in ((above.0, w.0), w.1))
+    further limit n all u first t rest same (cut limit all first t rest others)
 
 -- ---- what is told up to a token rests on no more than whether a number follows a `-`
 

@@ -1,12 +1,11 @@
--- How deep each token of a text nests, told by the tokens alone, from left to right: how many are open at it. At each token
--- first what has ended is no longer open, then the token opens what it opens, and a bracket that closes is still counted.
+-- How deep each token of a text nests, told by the tokens alone, from left to right: how many are open at it. At each token first
+-- what has ended before it is taken away; then it opens what it opens, and is counted; then a bracket that closes takes its
+-- partner away.
 use Rattle.std.specs.Prelude.{ℕ, Bool, true, false, ◌&&◌, not, if◌then◌else◌, List, [], ◌∷◌, length}
 use Rattle.ivory_lexer.specs.declared.Token.{Token}
 use Rattle.ivory_lexer.specs.declared.TokenKind.{TokenKind}
 use Rattle.ivory_lexer.specs.declared.TokenKind.TheVariants as kind
-use Rattle.ivory_lexer.specs.declared.Mark.{Mark}
 use Rattle.ivory_lexer.specs.declared.Mark.TheVariants as mark
-use Rattle.ivory_lexer.specs.declared.Key.{Key}
 use Rattle.ivory_lexer.specs.declared.Key.TheVariants as key
 use Rattle.reading.specs.Row.{starts}
 use Rattle.expression_grammar.specs.Tokens.{is_mark_kind, is_key_kind, is_number}
@@ -30,19 +29,19 @@ ends_expression (kind.Mark mark.OpenBrace) = true
 ends_expression (kind.Mark mark.CloseBrace) = true
 ends_expression _ = false
 
--- what ends behind an operand, before a token of this kind; an area has a `]` before its end
+-- what ends behind an operand, where a token of this kind comes next: a prefix operator, an arm, and an area, but not at its `]`
 abbrev pub ends_behind_operand : TokenKind → Open → Bool
 ends_behind_operand k Operator = not (operand_goes_on k)
 ends_behind_operand k Arm = ends_expression k
 ends_behind_operand k Area = not (is_mark_kind mark.CloseBracket k)
 ends_behind_operand k _ = false
 
--- what ends where a statement may begin
+-- what ends behind a statement, where a token of this kind comes next: an `if` behind `else`
 abbrev pub ends_behind_statement : TokenKind → Open → Bool
 ends_behind_statement k Branch = not (is_key_kind key.KwElse k)
 ends_behind_statement k _ = false
 
--- without the innermost ones that have ended
+-- these without the innermost ones that have ended
 abbrev pub without : (Open → Bool) → List Open → List Open
 without ended [] = []
 without ended (o ∷ os) = if ended o then without ended os else o ∷ os
@@ -54,12 +53,13 @@ still_open _ k os = os
 
 -- ---- what a token opens
 
--- behind an operand a `-` or `*` stands between two, and a `[` takes an element; a `*` that begins a statement is a store's
+-- a prefix operator may stand here: behind an operand `-` and `*` stand between two, and a `*` that begins a statement is a store's
 abbrev pub operand_begins : Before → Bool
 operand_begins Operand = false
 operand_begins Start = false
 operand_begins _ = true
 
+-- behind an operand a `[` takes an element
 abbrev pub opened_by_bracket : Before → Open
 opened_by_bracket Operand = Bracket
 opened_by_bracket _ = Area
@@ -67,6 +67,7 @@ opened_by_bracket _ = Area
 abbrev pub with_operator : Bool → List Open → List Open
 with_operator b os = if b then Operator ∷ os else os
 
+-- the `:` of a `?`, or of something else
 abbrev pub at_colon : List Open → List Open
 at_colon (Choice ∷ os) = Arm ∷ os
 at_colon os = os
@@ -75,21 +76,17 @@ abbrev pub at_if : Before → List Open → List Open
 at_if Else os = Branch ∷ os
 at_if _ os = os
 
--- a `-` before a number is the number's sign
-abbrev pub at_mark : Before → Mark → Bool → List Open → List Open
-at_mark b mark.OpenParen number_next os = Bracket ∷ os
-at_mark b mark.OpenBrace number_next os = Bracket ∷ os
-at_mark b mark.OpenBracket number_next os = opened_by_bracket b ∷ os
-at_mark b mark.Tilde number_next os = with_operator (operand_begins b) os
-at_mark b mark.Bang number_next os = with_operator (operand_begins b) os
-at_mark b mark.Star number_next os = with_operator (operand_begins b) os
-at_mark b mark.Minus number_next os = with_operator (operand_begins b && not number_next) os
-at_mark b mark.Question number_next os = Choice ∷ os
-at_mark b mark.Colon number_next os = at_colon os
-at_mark b _ number_next os = os
-
+-- what is open at a token of this kind; a `-` before a number is the number's sign
 abbrev pub open_at : Before → TokenKind → Bool → List Open → List Open
-open_at b (kind.Mark m) number_next os = at_mark b m number_next os
+open_at b (kind.Mark mark.OpenParen) number_next os = Bracket ∷ os
+open_at b (kind.Mark mark.OpenBrace) number_next os = Bracket ∷ os
+open_at b (kind.Mark mark.OpenBracket) number_next os = opened_by_bracket b ∷ os
+open_at b (kind.Mark mark.Tilde) number_next os = with_operator (operand_begins b) os
+open_at b (kind.Mark mark.Bang) number_next os = with_operator (operand_begins b) os
+open_at b (kind.Mark mark.Star) number_next os = with_operator (operand_begins b) os
+open_at b (kind.Mark mark.Minus) number_next os = with_operator (operand_begins b && not number_next) os
+open_at b (kind.Mark mark.Question) number_next os = Choice ∷ os
+open_at b (kind.Mark mark.Colon) number_next os = at_colon os
 open_at b (kind.Key key.KwIf) number_next os = at_if b os
 open_at b _ number_next os = os
 
@@ -119,42 +116,35 @@ abbrev pub behind_brace : Before → Before
 behind_brace Value = Value
 behind_brace _ = Start
 
-abbrev pub behind_key : Key → Before
-behind_key key.KwTrue = Operand
-behind_key key.KwFalse = Operand
-behind_key key.KwResult = Operand
-behind_key key.KwBool = Operand
-behind_key key.KwUint8t = Operand
-behind_key key.KwUint16t = Operand
-behind_key key.KwUint32t = Operand
-behind_key key.KwUint64t = Operand
-behind_key key.KwInt8t = Operand
-behind_key key.KwInt16t = Operand
-behind_key key.KwInt32t = Operand
-behind_key key.KwInt64t = Operand
-behind_key key.KwElse = Else
-behind_key key.KwRef = Ref
-behind_key _ = Other
-
-abbrev pub behind_mark : Before → Mark → List Open → Before
-behind_mark b mark.CloseParen os = Operand
-behind_mark b mark.CloseBracket os = behind_bracket os
-behind_mark b mark.Semicolon os = Start
-behind_mark b mark.CloseBrace os = Start
-behind_mark b mark.OpenBrace os = behind_brace b
-behind_mark b mark.Assign os = Value
-behind_mark b mark.Comma os = Value
-behind_mark b _ os = Other
-
 abbrev pub behind : Before → TokenKind → List Open → Before
 behind b (kind.Name w) os = behind_name b
 behind b (kind.Number n) os = Operand
-behind b (kind.Key k) os = behind_key k
-behind b (kind.Mark m) os = behind_mark b m os
+behind b (kind.Key key.KwTrue) os = Operand
+behind b (kind.Key key.KwFalse) os = Operand
+behind b (kind.Key key.KwResult) os = Operand
+behind b (kind.Key key.KwBool) os = Operand
+behind b (kind.Key key.KwUint8t) os = Operand
+behind b (kind.Key key.KwUint16t) os = Operand
+behind b (kind.Key key.KwUint32t) os = Operand
+behind b (kind.Key key.KwUint64t) os = Operand
+behind b (kind.Key key.KwInt8t) os = Operand
+behind b (kind.Key key.KwInt16t) os = Operand
+behind b (kind.Key key.KwInt32t) os = Operand
+behind b (kind.Key key.KwInt64t) os = Operand
+behind b (kind.Key key.KwElse) os = Else
+behind b (kind.Key key.KwRef) os = Ref
+behind b (kind.Mark mark.CloseParen) os = Operand
+behind b (kind.Mark mark.CloseBracket) os = behind_bracket os
+behind b (kind.Mark mark.Semicolon) os = Start
+behind b (kind.Mark mark.CloseBrace) os = Start
+behind b (kind.Mark mark.OpenBrace) os = behind_brace b
+behind b (kind.Mark mark.Assign) os = Value
+behind b (kind.Mark mark.Comma) os = Value
+behind b _ os = Other
 
 -- ---- the nesting at each token
 
--- with what is open there, and what the token before is
+-- behind this token, with this open
 abbrev pub nestings_from : Before → List Open → List Token → List ℕ
 nestings_from b os [] = []
 nestings_from b os (t ∷ ts) =

@@ -1,7 +1,7 @@
 -- What may be open at a place of a text, and what the token before it says of the place.
 use Rattle.std.specs.Prelude.{List}
 
--- each is open from its own token on
+-- each is open from its own token on, which is counted
 pub data Open : Type 0 where
   -- a `(`, a `{`, or the `[` of an element: to its partner
   Bracket : Open
@@ -15,15 +15,17 @@ pub data Open : Type 0 where
   -- an `if` behind `else`: to its statement's end
   Branch : Open
 
--- what the token before a place is
+-- the token before a place
 pub data Before : Type 0 where
-  -- a name, a number, a type, `true`, `false`, `result`, `)`, or the `]` of an element: an operand or an area may end with it
+  -- a name, a number, a keyword that is a type or an operand, a `)`, or the `]` of an element: an operand or an area may end with it
   Operand : Before
-  -- `;`, `}`, or the `{` of a block: a statement may begin behind it
+  -- none, a `;`, a `}`, or the `{` of a block: a statement may begin behind it
   Start : Before
-  -- `=`, `,`, or the `{` of an initializer: an initializer may begin behind it
+  -- a `=`, a `,`, or the `{` of an initializer: an initializer may begin behind it
   Value : Before
+  -- `else`
   Else : Before
+  -- `ref`
   Ref : Before
   -- any other
   Other : Before

@@ -13,7 +13,6 @@ pub fn tokens_tell_nesting()
 {}
 
 /// So whether a text is a module within a limit of nesting, and where it is too deep, is told without the trees.
-
 pub fn tokens_tell_the_limit()
     ensures within { TokensTellWithin }
     ensures too_deep { TokensTellTooDeep }

@@ -6,7 +6,7 @@ use Rattle.ivory_lexer.specs.declared.TokenKind.TheVariants as kind
 use Rattle.ivory_lexer.specs.declared.Mark.TheVariants as mark
 use Rattle.reading.specs.Row.{starts}
 use Rattle.expression_grammar.specs.Tokens.{is_number}
-use Rattle.token_nesting.specs.Open.{Open, Bracket, Area, Operator, Choice, Arm, Branch, Before, Operand, Start, Value, Else, Ref, Other}
+use Rattle.token_nesting.specs.Open.{Open, Bracket, Area, Operator, Choice, Arm, Branch, Before, Operand, Start}
 use Rattle.token_nesting.specs.Nesting.{operand_goes_on, ends_expression, ends_behind_operand, ends_behind_statement, still_open, open_at, open_behind, behind, nestings_from}
 use Rattle.token_nesting.proofs.Scan.{next}
 

@@ -1,5 +1,5 @@
 -- Expressions.
-use Rattle.std.proofs.Common.{◌≡◌, ℕ, suc, Bool, true, false, not, List, [], ◌∷◌, ◌++◌, refl, ap, ◌∙◌, subst, append_assoc, length}
+use Rattle.std.proofs.Common.{◌≡◌, ℕ, suc, true, false, not, List, [], ◌∷◌, ◌++◌, refl, ap, ◌∙◌, subst, append_assoc, length}
 use Rattle.iv_words.specs.declared.Span.{Span}
 use Rattle.ivory_lexer.specs.declared.Token.{Token}
 use Rattle.ivory_lexer.specs.declared.TokenKind.TheVariants as kind
@@ -9,7 +9,7 @@ use Rattle.ivory_lexer.specs.declared.Key.TheVariants as key
 use Rattle.ivory_tree.specs.declared.BinOp.{BinOp}
 use Rattle.ivory_tree.specs.declared.Expr.{Expr}
 use Rattle.reading.specs.Row.{Row, tokens, starts}
-use Rattle.reading.specs.Language.{Terminal, Many}
+use Rattle.reading.specs.Language.{Terminal}
 use Rattle.expression_grammar.specs.Tokens.{symbol, number_of, is_number}
 use Rattle.expression_grammar.specs.Operators.{operator}
 use Rattle.expression_grammar.specs.Grammar as grammar

@@ -1,13 +1,12 @@
 -- Where nothing is open that ends by itself: within a bracket, or within nothing.
-use Rattle.std.proofs.Common.{◌≡◌, ℕ, Bool, true, false, List, [], ◌∷◌, ◌++◌, refl, ap, ◌∙◌, length}
+use Rattle.std.proofs.Common.{◌≡◌, Bool, true, false, List, [], ◌∷◌, refl}
 use Rattle.iv_words.specs.declared.Span.{Span}
 use Rattle.ivory_lexer.specs.declared.Token.{Token}
 use Rattle.ivory_lexer.specs.declared.TokenKind.{TokenKind}
 use Rattle.ivory_lexer.specs.declared.TokenKind.TheVariants as kind
-use Rattle.ivory_lexer.specs.declared.Mark.{Mark}
 use Rattle.ivory_lexer.specs.declared.Mark.TheVariants as mark
 use Rattle.expression_grammar.proofs.Tokens.{token}
-use Rattle.token_nesting.specs.Open.{Open, Bracket, Area, Operator, Choice, Arm, Branch, Operand, Start}
+use Rattle.token_nesting.specs.Open.{Open, Bracket, Operand, Start}
 use Rattle.token_nesting.specs.Nesting.{ends_expression, still_open, nestings_from}
 use Rattle.token_nesting.proofs.Ends.{holds_expression, expression_stops}
 

@@ -1,5 +1,5 @@
 -- Initializers.
-use Rattle.std.proofs.Common.{◌≡◌, ℕ, suc, Bool, true, false, List, [], ◌∷◌, ◌++◌, refl, sym, ap, ◌∙◌, subst, append_assoc, length, Option, Some, None}
+use Rattle.std.proofs.Common.{◌≡◌, ℕ, suc, true, List, ◌∷◌, ◌++◌, refl, sym, ap, ◌∙◌, subst, append_assoc, length, Option, Some, None}
 use Rattle.iv_words.specs.declared.Span.{Span}
 use Rattle.ivory_lexer.specs.declared.Token.{Token}
 use Rattle.ivory_lexer.specs.declared.TokenKind.TheVariants as kind
@@ -29,9 +29,10 @@ Told further os row = ground os ≡ true → Scan expression_stops Operand os ro
 told : (s : Symbol) (x : Tree s) (d : ℕ) (row : Row Token) → Spells s x d row → (os : List Open) → length os ≡ d → Told s os row
 told further x d row grammar.none os at = λ h. (nothing, λ rest e. e)
 told further x d row (grammar.more {x = y} {xs} {g} {h = i} t r rs) os at = λ h.
-    let others = told further xs d i rs os at h in
-    (and (scan_mark mark.Comma at t (λ s rest. ap (λ x. length x ∷ nestings_from Value x rest) (ground_stays (kind.Mark mark.Comma) os h))) (before_that (told init y d g r os at h) others.0 others.1),
-    λ rest e. stops_at mark.Comma t refl _ rest)
+    let others = told further xs d i rs os at h in (
+      and (scan_mark mark.Comma at t (λ s rest. ap (λ x. length x ∷ nestings_from Value x rest) (ground_stays (kind.Mark mark.Comma) os h))) (before_that (told init y d g r os at h) others.0 others.1),
+      λ rest e. stops_at mark.Comma t refl _ rest,
+    )
 told init x d row (grammar.one r) os at = λ h. scan_value at (of_ground os h) r
 told init x d row (grammar.empty t u) os at = λ h.
     onward (stricter (and (scan_mark mark.OpenBrace (ap suc at) t (λ s rest. refl)) (scan_mark mark.CloseBrace (ap suc at) u (λ s rest. refl))) (λ rest e. refl)) (behind_brace_same os h)

@@ -1,5 +1,5 @@
 -- Items and their parts.
-use Rattle.std.proofs.Common.{◌≡◌, ℕ, zero, suc, Bool, true, false, not, List, [], ◌∷◌, ◌++◌, refl, sym, ap, ◌∙◌, subst, append_assoc, length, Option, Some, None}
+use Rattle.std.proofs.Common.{◌≡◌, ℕ, zero, suc, Bool, true, List, [], ◌∷◌, ◌++◌, refl, sym, ap, ◌∙◌, subst, length, Option, Some, None}
 use Rattle.iv_words.specs.declared.Span.{Span}
 use Rattle.ivory_lexer.specs.declared.Token.{Token}
 use Rattle.ivory_lexer.specs.declared.TokenKind.{TokenKind}
@@ -15,7 +15,7 @@ use Rattle.ivory_tree.specs.declared.Header.{Header}
 use Rattle.ivory_tree.specs.declared.Contract.{Contract}
 use Rattle.ivory_tree.specs.declared.Item.{Item}
 use Rattle.reading.specs.Row.{Row, tokens}
-use Rattle.reading.specs.Language.{Language, Terminal, After, Optional, Many, AtLeastOne}
+use Rattle.reading.specs.Language.{Terminal, After, Optional, Many, AtLeastOne}
 use Rattle.expression_grammar.specs.Tokens.{symbol, keyword}
 use Rattle.expression_grammar.proofs.Tokens.{token, keyed}
 use Rattle.module_grammar.specs.Tokens.{width_of, width_of_kind, before_of, before_of_kind}
@@ -23,10 +23,9 @@ use Rattle.module_grammar.specs.Pieces.{Type_}
 use Rattle.module_grammar.specs.Parts as parts
 use Rattle.module_grammar.specs.Items as grammar
 use Rattle.module_grammar.specs.Items.{header, item, Spells}
-use Rattle.module_grammar.specs.Statements as statements
-use Rattle.token_nesting.specs.Open.{Open, Bracket, Area, Before, Operand, Start, Value, Other}
+use Rattle.token_nesting.specs.Open.{Open, Bracket, Area, Before, Operand, Start, Other}
 use Rattle.token_nesting.specs.Nesting.{ends_behind_operand, nestings_from}
-use Rattle.token_nesting.proofs.Scan.{Scan, anything, next, scan_token, and, before_that, stricter, nothing, first_passes}
+use Rattle.token_nesting.proofs.Scan.{Scan, anything, next, scan_token, and, before_that, stricter, nothing}
 use Rattle.token_nesting.proofs.Tokens.{scan_mark, scan_key, scan_name, scan_int}
 use Rattle.token_nesting.proofs.Expressions.{scan_expression, to_paren}
 use Rattle.token_nesting.proofs.Types.{area_stops, area_stops_alone, scan_area, scan_type}

@@ -1,12 +1,10 @@
 -- The limit of nesting by the tokens alone.
-use Rattle.std.proofs.Common.{◌≡◌, ℕ, zero, suc, ◌≤◌, ◌<◌, Bool, true, false, List, [], ◌∷◌, ◌++◌, refl, sym, ap, ◌∙◌, subst, length}
-use Rattle.std.specs.Prelude.{◌↔◌}
+use Rattle.std.proofs.Common.{◌≡◌, ℕ, ◌≤◌, ◌<◌, Bool, true, List, [], ◌∷◌, ◌++◌, refl, sym, ap, ◌∙◌, subst, length}
 use Rattle.ivory_lexer.specs.declared.Token.{Token}
 use Rattle.ivory_lexer.specs.declared.TokenKind.{TokenKind}
 use Rattle.ivory_lexer.specs.declared.TokenKind.TheVariants as kind
 use Rattle.ivory_lexer.specs.declared.Mark.TheVariants as mark
 use Rattle.ivory_lexer.specs.declared.Key.TheVariants as key
-use Rattle.ivory_tree.specs.declared.Module.{Module}
 use Rattle.reading.specs.Row.{Entry, Row, tokens, Shallow, starts}
 use Rattle.reading.specs.Exact.{Spelled, SpelledWithin, TooDeepAt}
 use Rattle.reading.proofs.Rows.{tokens_append}
@@ -70,10 +68,11 @@ above_same limit b os [] t tail rest same above = subst (λ now. limit < length 
 above_same limit b os (u ∷ first) t tail rest same above =
     let now = λ (n : Bool). open_at b u.kind n (still_open b u.kind os) in
     let n = starts is_number (first ++ t ∷ tail) in
-    let ahead = number_ahead first t tail rest in
-    (subst (λ m. length (now m) ≤ limit) ahead above.0,
-    subst (λ m. FirstAbove limit (nestings_from (behind b u.kind (now m)) (open_behind u.kind (now m)) (first ++ t ∷ rest)) (length first)) ahead
-        (above_same limit (behind b u.kind (now n)) (open_behind u.kind (now n)) first t tail rest same above.1))
+    let ahead = number_ahead first t tail rest in (
+      subst (λ m. length (now m) ≤ limit) ahead above.0,
+      subst (λ m. FirstAbove limit (nestings_from (behind b u.kind (now m)) (open_behind u.kind (now m)) (first ++ t ∷ rest)) (length first)) ahead
+          (above_same limit (behind b u.kind (now n)) (open_behind u.kind (now n)) first t tail rest same above.1),
+    )
 
 -- ---- the laws
 
@@ -94,9 +93,10 @@ tokens_tell_too_deep limit ts i = (to, back)
         let told = nestings (tokens (row ++ m ∷ tail)) in
         let whole : told ≡ depths (row ++ m ∷ tail) = tokens_tell_nesting x (row ++ m ∷ tail) r in
         let above = subst (λ ns. FirstAbove limit ns (length (tokens row))) (sym whole) (first_above limit row m tail s deep) in
-        let cut_above = subst (λ y. FirstAbove limit (nestings y) (length (tokens row))) (tokens_append row (m ∷ tail)) above in
-        ((tokens row, m.token, rest, tokens tail, x, is, at, (row ++ m ∷ tail, r, tokens_append row (m ∷ tail)), fits),
-        subst (λ j. FirstAbove limit (nestings ts) j) (sym at) (subst (λ y. FirstAbove limit (nestings y) (length (tokens row))) (sym is) (above_same limit _ _ (tokens row) m.token (tokens tail) rest fits cut_above)))
+        let cut_above = subst (λ y. FirstAbove limit (nestings y) (length (tokens row))) (tokens_append row (m ∷ tail)) above in (
+          (tokens row, m.token, rest, tokens tail, x, is, at, (row ++ m ∷ tail, r, tokens_append row (m ∷ tail)), fits),
+          subst (λ j. FirstAbove limit (nestings ts) j) (sym at) (subst (λ y. FirstAbove limit (nestings y) (length (tokens row))) (sym is) (above_same limit _ _ (tokens row) m.token (tokens tail) rest fits cut_above)),
+        )
 
     back : BeginsUpTo ts i × FirstAbove limit (nestings ts) i → TooDeepAt Text signs limit ts i
     back ((first, t, rest, tail, x, is, at, (all, r, spelled), agree), above) =
@@ -104,6 +104,16 @@ tokens_tell_too_deep limit ts i = (to, back)
         let here_above = subst (λ y. FirstAbove limit (nestings y) (length first)) is (subst (λ j. FirstAbove limit (nestings ts) j) at above) in
         let there_above = above_same limit _ _ first t rest tail (λ minus. sym (agree minus)) here_above in
         let told : nestings (first ++ t ∷ tail) ≡ depths all = ap (λ y. nestings y) (sym spelled) ∙ tokens_tell_nesting x all r in
-        let w = tells (subst (λ ns. FirstAbove limit ns (length first)) told there_above) in
-        (row, m, behind_it, rest, x, is ∙ ap (λ y. y ++ t ∷ rest) (sym before) ∙ ap (λ u. tokens row ++ u ∷ rest) (sym here), at ∙ ap (λ y. length y) (sym before),
-        subst (Text x) parts r, w.0, w.1, λ minus. ap (λ y. starts is_number y) others ∙ agree (ap (λ u. is_mark mark.Minus u) (sym here) ∙ minus))
+        let w = tells (subst (λ ns. FirstAbove limit ns (length first)) told there_above) in (
+          row,
+          m,
+          behind_it,
+          rest,
+          x,
+          is ∙ ap (λ y. y ++ t ∷ rest) (sym before) ∙ ap (λ u. tokens row ++ u ∷ rest) (sym here),
+          at ∙ ap (λ y. length y) (sym before),
+          subst (Text x) parts r,
+          w.0,
+          w.1,
+          λ minus. ap (λ y. starts is_number y) others ∙ agree (ap (λ u. is_mark mark.Minus u) (sym here) ∙ minus),
+        )

@@ -33,9 +33,10 @@ module _ {A : Type 0} {R : Language Token A} {q : TokenKind → Bool} {b : Befor
   further (x ∷ xs) row (f, g, is, (s, h, i, parts, t, r), rs) =
       let others = further xs g rs in
       let whole : row ≡ h ++ (i ++ g) = is ∙ ap (λ y. y ++ g) parts ∙ append_assoc h i g in
-      subst (Further q os) (sym whole)
-          (and (scan_mark mark.Comma at t (λ s rest. refl)) (before_that (each.later x i r) others.0 others.1),
-          λ rest e. first_of_two q (symbol mark.Comma) s h t (λ u p. mark_is q mark.Comma each.comma u p) (i ++ g) rest)
+      subst (Further q os) (sym whole) (
+        and (scan_mark mark.Comma at t (λ s rest. refl)) (before_that (each.later x i r) others.0 others.1),
+        λ rest e. first_of_two q (symbol mark.Comma) s h t (λ u p. mark_is q mark.Comma each.comma u p) (i ++ g) rest,
+      )
 
   pub separated : (xs : List A) (row : Row Token) → Separated (Terminal d (symbol mark.Comma)) R xs row → Scan (next q) b (Bracket ∷ os) row Operand (Bracket ∷ os)
   separated xs row (x, f, g, is, r, (more, rs, same)) =
@@ -47,7 +48,7 @@ pub up_to_paren : {A : Type 0} {R : Language Token A} {q : TokenKind → Bool} {
 up_to_paren each at close xs row (inl (c, t, is)) = scan_mark mark.CloseParen at t (λ s rest. refl)
 up_to_paren {q = q} {os} each at close xs row (inr (ys, f, g, is, r, (c, t, same))) =
     subst (λ y. Scan anything Other (Bracket ∷ os) y Operand os) (sym is)
-        (before_that (separated each at ys f r) (scan_mark mark.CloseParen at t (λ s rest. refl)) (λ rest e. first_passes q (symbol mark.CloseParen) c g t (λ u p. mark_is q mark.CloseParen close u p) rest))
+    (before_that (separated each at ys f r) (scan_mark mark.CloseParen at t (λ s rest. refl)) (λ rest e. first_passes q (symbol mark.CloseParen) c g t (λ u p. mark_is q mark.CloseParen close u p) rest))
 
 -- without separators
 pub all : {A : Type 0} {R : Language Token A} {b : Before} {os : List Open} → ((x : A) (f : Row Token) → R x f → Scan anything b os f b os) → (xs : List A) (row : Row Token) → Many R xs row → Scan anything b os row b os

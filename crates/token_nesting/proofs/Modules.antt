@@ -1,5 +1,5 @@
 -- A whole text.
-use Rattle.std.proofs.Common.{◌≡◌, ℕ, zero, List, [], ◌++◌, refl, sym, ap, ◌∙◌}
+use Rattle.std.proofs.Common.{◌≡◌, ℕ, zero, [], refl, sym, ap, ◌∙◌}
 use Rattle.ivory_lexer.specs.declared.Token.{Token}
 use Rattle.ivory_lexer.specs.declared.Mark.TheVariants as mark
 use Rattle.ivory_lexer.specs.declared.Key.TheVariants as key
@@ -9,7 +9,7 @@ use Rattle.reading.proofs.Rows.{append_nil}
 use Rattle.module_grammar.specs.Modules as grammar
 use Rattle.module_grammar.specs.Modules.{module_, Spells, Text}
 use Rattle.token_nesting.specs.Open.{Start}
-use Rattle.token_nesting.specs.Nesting.{nestings, nestings_from}
+use Rattle.token_nesting.specs.Nesting.{nestings}
 use Rattle.token_nesting.specs.Law.{depths, TokensTellNesting}
 use Rattle.token_nesting.proofs.Scan.{Scan, anything, and}
 use Rattle.token_nesting.proofs.Tokens.{scan_mark, scan_key, scan_name}

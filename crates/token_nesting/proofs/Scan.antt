@@ -1,16 +1,10 @@
 -- What is told of a row from a place on, whatever follows it.
-use Rattle.std.proofs.Common.{◌≡◌, ℕ, Bool, true, false, not, List, [], ◌∷◌, ◌++◌, refl, sym, ap, ◌∙◌, append_assoc, Option, Some}
-use Rattle.iv_words.specs.declared.Span.{Span}
+use Rattle.std.proofs.Common.{◌≡◌, ℕ, Bool, true, List, [], ◌∷◌, ◌++◌, refl, sym, ap, ◌∙◌, append_assoc, Option, Some}
 use Rattle.ivory_lexer.specs.declared.Token.{Token}
 use Rattle.ivory_lexer.specs.declared.TokenKind.{TokenKind}
-use Rattle.ivory_lexer.specs.declared.TokenKind.TheVariants as kind
-use Rattle.ivory_lexer.specs.declared.Mark.{Mark}
-use Rattle.ivory_lexer.specs.declared.Key.{Key}
 use Rattle.reading.specs.Row.{Row, tokens}
 use Rattle.reading.specs.Language.{Terminal}
 use Rattle.reading.proofs.Rows.{tokens_append}
-use Rattle.expression_grammar.specs.Tokens.{symbol, keyword}
-use Rattle.expression_grammar.proofs.Tokens.{marked, keyed, at_mark, at_key, symbol_passes, keyword_passes}
 use Rattle.token_nesting.specs.Open.{Open, Before}
 use Rattle.token_nesting.specs.Nesting.{nestings_from}
 use Rattle.token_nesting.specs.Law.{depths}

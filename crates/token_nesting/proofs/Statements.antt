@@ -1,5 +1,5 @@
 -- Calls, statements and blocks.
-use Rattle.std.proofs.Common.{◌≡◌, ℕ, suc, Bool, true, false, not, List, [], ◌∷◌, ◌++◌, refl, sym, ap, ◌∙◌, subst, append_assoc, length, Option, Some, None}
+use Rattle.std.proofs.Common.{◌≡◌, ℕ, suc, Bool, true, false, not, List, [], ◌∷◌, ◌++◌, refl, sym, ap, ◌∙◌, subst, length, Option, Some, None}
 use Rattle.iv_words.specs.declared.Span.{Span}
 use Rattle.ivory_lexer.specs.declared.Token.{Token}
 use Rattle.ivory_lexer.specs.declared.TokenKind.{TokenKind}
@@ -11,10 +11,9 @@ use Rattle.ivory_tree.specs.declared.Expr.{Expr}
 use Rattle.ivory_tree.specs.declared.Stmt.{Stmt}
 use Rattle.ivory_tree.specs.declared.Block.{Block}
 use Rattle.reading.specs.Row.{Entry, Row, tokens}
-use Rattle.reading.specs.Language.{Language, Terminal, Optional}
-use Rattle.reading.proofs.Starts.{StartsWith}
+use Rattle.reading.specs.Language.{Terminal, Optional}
 use Rattle.reading.proofs.Rows.{regroup}
-use Rattle.expression_grammar.specs.Tokens.{is_key, symbol, is_mark}
+use Rattle.expression_grammar.specs.Tokens.{symbol, is_mark}
 use Rattle.expression_grammar.proofs.Tokens.{token, marked, keyed, at_mark, not_key, symbol_passes}
 use Rattle.module_grammar.specs.Pieces.{Expression}
 use Rattle.module_grammar.specs.StatementReader.{begins_statement}
@@ -25,8 +24,8 @@ use Rattle.token_nesting.specs.Open.{Open, Bracket, Branch, Before, Operand, Sta
 use Rattle.token_nesting.specs.Nesting.{ends_expression, ends_behind_statement, still_open, nestings_from}
 use Rattle.token_nesting.proofs.Scan.{Scan, anything, next, and, before_that, stricter, onward, nothing, first_passes}
 use Rattle.token_nesting.proofs.Ends.{holds_expression, expression_stops, branch_ends}
-use Rattle.token_nesting.proofs.Tokens.{scan_mark, scan_key, scan_name, scan_number, valued_expression, valued_postfix}
-use Rattle.token_nesting.proofs.Expressions.{scan_expression, scan_value, scan_postfix, stops_alone, stops_at, to_paren}
+use Rattle.token_nesting.proofs.Tokens.{scan_mark, scan_key, scan_name, scan_number, valued_postfix}
+use Rattle.token_nesting.proofs.Expressions.{scan_expression, scan_value, scan_postfix, stops_alone, stops_at}
 use Rattle.token_nesting.proofs.Inits.{scan_area_and_value}
 use Rattle.token_nesting.proofs.Lists.{Elements, up_to_paren}
 

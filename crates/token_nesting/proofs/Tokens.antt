@@ -14,10 +14,10 @@ use Rattle.ivory_tree.specs.Syntax.{Word}
 use Rattle.ivory_tree.specs.declared.BinOp.{BinOp}
 use Rattle.ivory_tree.specs.declared.PrefixOp.{PrefixOp}
 use Rattle.ivory_tree.specs.declared.Expr.{Expr}
-use Rattle.reading.specs.Row.{Entry, Row, tokens, starts}
+use Rattle.reading.specs.Row.{Row, tokens, starts}
 use Rattle.reading.specs.Language.{Language, Terminal}
 use Rattle.reading.proofs.Starts.{StartsWith}
-use Rattle.expression_grammar.specs.Tokens.{is_mark_kind, is_mark, symbol, keyword, name_of, word_of, number_of, truth_of, truth_of_kind, int_of, int_of_kind, is_number}
+use Rattle.expression_grammar.specs.Tokens.{is_mark_kind, symbol, keyword, name_of, word_of, number_of, truth_of, truth_of_kind, int_of, int_of_kind, is_number}
 use Rattle.expression_grammar.specs.Operators.{binary_of, with_place, of_level, operator, plain_prefix, plain_prefix_of}
 use Rattle.expression_grammar.specs.Grammar as grammar
 use Rattle.expression_grammar.specs.Grammar.{Rule, Spells}
@@ -25,7 +25,7 @@ use Rattle.expression_grammar.specs.Edges.{begins_postfix, begins_expression}
 use Rattle.expression_grammar.proofs.Begins.{starts_postfix, starts_expression}
 use Rattle.expression_grammar.proofs.Tokens.{not_mark, token, marked, keyed, at_mark, at_key, at_name, at_number, symbol_passes, keyword_passes, number_passes, word_passes, name_passes}
 use Rattle.token_nesting.specs.Open.{Open, Operator, Before, Operand, Value, Other}
-use Rattle.token_nesting.specs.Nesting.{nestings_from, operand_begins, with_operator, operand_goes_on, ends_expression, still_open}
+use Rattle.token_nesting.specs.Nesting.{nestings_from, operand_begins, with_operator, operand_goes_on}
 use Rattle.token_nesting.proofs.Scan.{Scan, anything, scan_token}
 use Rattle.token_nesting.proofs.Ends.{holds_expression, expression_stays}
 
@@ -103,12 +103,12 @@ sign_told false s os rest e = cc
 pub scan_minus : {d : ℕ} {x : Span} {os : List Open} {f : Row Token} → length (Operator ∷ os) ≡ d → Terminal d (symbol mark.Minus) x f → Scan no_number Other os f Other (Operator ∷ os)
 scan_minus {x} {os} {f} at t =
     scan_token (symbol mark.Minus) x f at t (λ u rest e p. at_mark (λ y. nestings_from Other os (y ∷ rest)) (length (Operator ∷ os) ∷ nestings_from Other (Operator ∷ os) rest) mark.Minus
-        (λ s. minus_told (starts is_number rest) s os rest p) u (symbol_passes mark.Minus u x e))
+    (λ s. minus_told (starts is_number rest) s os rest p) u (symbol_passes mark.Minus u x e))
 
 pub scan_sign : {d : ℕ} {x : Span} {os : List Open} {f : Row Token} → length os ≡ d → Terminal d (symbol mark.Minus) x f → Scan (starts is_number) Other os f Other os
 scan_sign {x} {os} {f} at t =
     scan_token (symbol mark.Minus) x f at t (λ u rest e p. at_mark (λ y. nestings_from Other os (y ∷ rest)) (length os ∷ nestings_from Other os rest) mark.Minus
-        (λ s. sign_told (starts is_number rest) s os rest p) u (symbol_passes mark.Minus u x e))
+    (λ s. sign_told (starts is_number rest) s os rest p) u (symbol_passes mark.Minus u x e))
 
 binary_told : (k : TokenKind) → is_some (binary_of k) ≡ true → (s : Span) (os : List Open) → holds_expression os ≡ true → (rest : List Token)
     → nestings_from Operand os (token k s ∷ rest) ≡ length os ∷ nestings_from Other os rest

@@ -1,12 +1,11 @@
 -- Types and areas.
-use Rattle.std.proofs.Common.{◌≡◌, ℕ, suc, Bool, true, false, List, [], ◌∷◌, ◌++◌, refl, sym, ap, subst, length, Option, Some, None}
+use Rattle.std.proofs.Common.{◌≡◌, ℕ, suc, Bool, true, List, ◌∷◌, ◌++◌, refl, sym, ap, subst, length, Option, Some, None}
 use Rattle.iv_words.specs.declared.Span.{Span}
 use Rattle.ivory_lexer.specs.declared.Token.{Token}
 use Rattle.ivory_lexer.specs.declared.TokenKind.{TokenKind}
 use Rattle.ivory_lexer.specs.declared.TokenKind.TheVariants as kind
 use Rattle.ivory_lexer.specs.declared.Mark.{Mark}
 use Rattle.ivory_lexer.specs.declared.Mark.TheVariants as mark
-use Rattle.ivory_lexer.specs.declared.Key.{Key}
 use Rattle.ivory_lexer.specs.declared.Key.TheVariants as key
 use Rattle.ivory_tree.specs.declared.RegionText.{RegionText}
 use Rattle.ivory_tree.specs.declared.TypeText.{TypeText}
@@ -18,7 +17,7 @@ use Rattle.expression_grammar.proofs.Tokens.{token, at_mark, symbol_passes}
 use Rattle.module_grammar.specs.Tokens.{region_of, region_of_kind}
 use Rattle.module_grammar.specs.Types as grammar
 use Rattle.module_grammar.specs.Types.{Symbol, value, type, area, Tree, Spells}
-use Rattle.token_nesting.specs.Open.{Open, Bracket, Area, Operand, Ref, Other}
+use Rattle.token_nesting.specs.Open.{Open, Area, Operand, Ref, Other}
 use Rattle.token_nesting.specs.Nesting.{ends_behind_operand, nestings_from}
 use Rattle.token_nesting.proofs.Scan.{Scan, anything, scan_token, and, stricter, onward, nothing, first_passes, first_of_two}
 use Rattle.token_nesting.proofs.Ends.{ends, operand_ends}

@@ -1,5 +1,4 @@
 -- What may be open at a place of a text, and what the token before it says of the place.
-use Rattle.std.specs.Prelude.{List}
 
 -- each is open from its own token on, which is counted
 pub data Open : Type 0 where

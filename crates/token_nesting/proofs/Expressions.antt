@@ -1,4 +1,4 @@
--- Expressions.
+-- What the tokens of an expression tell: whatever is open around it stays so, and behind it nothing more is open.
 use Rattle.std.proofs.Common.{◌≡◌, ℕ, suc, true, false, not, List, [], ◌∷◌, ◌++◌, refl, ap, ◌∙◌, subst, append_assoc, length}
 use Rattle.iv_words.specs.declared.Span.{Span}
 use Rattle.ivory_lexer.specs.declared.Token.{Token}

@@ -1,4 +1,4 @@
--- Initializers.
+-- What the tokens of an initializer tell, and of an area with one.
 use Rattle.std.proofs.Common.{◌≡◌, ℕ, suc, true, List, ◌∷◌, ◌++◌, refl, sym, ap, ◌∙◌, subst, append_assoc, length, Option, Some, None}
 use Rattle.iv_words.specs.declared.Span.{Span}
 use Rattle.ivory_lexer.specs.declared.Token.{Token}

@@ -1,4 +1,4 @@
--- A whole text.
+-- What the tokens of a module tell.
 use Rattle.std.proofs.Common.{◌≡◌, ℕ, zero, [], refl, sym, ap, ◌∙◌}
 use Rattle.ivory_lexer.specs.declared.Token.{Token}
 use Rattle.ivory_lexer.specs.declared.Mark.TheVariants as mark

@@ -1,4 +1,4 @@
--- What is told of a row from a place on, whatever follows it.
+-- Scans: what is told of a row from a place on, whatever follows it. They are put together as rules are.
 use Rattle.std.proofs.Common.{◌≡◌, ℕ, Bool, true, List, [], ◌∷◌, ◌++◌, refl, sym, ap, ◌∙◌, append_assoc, Option, Some}
 use Rattle.ivory_lexer.specs.declared.Token.{Token}
 use Rattle.ivory_lexer.specs.declared.TokenKind.{TokenKind}

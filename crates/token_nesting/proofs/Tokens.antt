@@ -1,4 +1,4 @@
--- One token, by what its row says of it.
+-- What one token tells, by what its rule says of it.
 use Rattle.std.proofs.Common.{◌≡◌, ℕ, Bool, true, false, not, ◌&&◌, List, [], ◌∷◌, ◌++◌, refl, ap, ◌∙◌, length, Option, Some, None, is_some}
 use Rattle.iv_words.specs.declared.Span.{Span}
 use Rattle.iv_words.specs.declared.Name.{Name}

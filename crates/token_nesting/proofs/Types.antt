@@ -1,4 +1,4 @@
--- Types and areas.
+-- What the tokens of a type or an area tell.
 use Rattle.std.proofs.Common.{◌≡◌, ℕ, suc, Bool, true, List, ◌∷◌, ◌++◌, refl, sym, ap, subst, length, Option, Some, None}
 use Rattle.iv_words.specs.declared.Span.{Span}
 use Rattle.ivory_lexer.specs.declared.Token.{Token}
@@ -23,6 +23,7 @@ use Rattle.token_nesting.proofs.Scan.{Scan, anything, scan_token, and, stricter,
 use Rattle.token_nesting.proofs.Ends.{ends, operand_ends}
 use Rattle.token_nesting.proofs.Tokens.{scan_mark, scan_key, scan_word, scan_number, scan_int}
 
+-- what follows ends an area
 abbrev pub area_stops : List Token → Bool
 area_stops ts = ends Area ts
 

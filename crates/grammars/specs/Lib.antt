@@ -1,0 +1,7 @@
+pub mod Grammar
+pub mod Spelled
+pub mod Kinds
+pub mod Reader
+pub mod Checks
+pub mod Example
+pub mod Laws

@@ -16,6 +16,7 @@ use Rattle.c_ast.specs.declared.expr.CUnary.TheVariants.{Neg, Flip, Not}
 use Rattle.c_ast.specs.declared.expr.CBinary.{CBinary}
 use Rattle.c_ast.specs.declared.expr.CBinary.TheVariants.{Add, Sub, Mul, Div, Rem, And, Or, Xor, Shl, Shr, Eq, Ne, Lt, Le, Gt, Ge, AndAlso, OrElse}
 use Rattle.c_ast.specs.declared.unit.CStruct.{CStruct}
+use Rattle.c_ast.specs.Names.{named}
 use Rattle.c_ast.specs.Syntax.{Name, Expr, Number, Read, Address, Unary, Binary, Cast, Cond, Place, Var, At, Member, Element}
 use Rattle.type_trees.specs.Trees.{Leaf, Many, Struct, End, Field}
 use Rattle.c_ast.specs.Structs.{CTree, CRow, tree}
@@ -29,7 +30,8 @@ pub data ValueType : Type 0 where
   Arithmetic : CKind → ValueType
   PointerTo : (constant : Bool) → CBase → ValueType
 
--- the type of a place: a const name, which is no object and only holds a value, or an object's, with its const flag (6.7.3)
+-- The type of a place: of a const name the type of the value that it holds, or an object's, with its const flag (6.7.3). In C99 a const
+-- name is an object too; here it counts as its value, since nothing of the subset writes to it or takes its address.
 pub data PlaceType : Type 0 where
   Held : ValueType → PlaceType
   Stored : (constant : Bool) → CTree → PlaceType
@@ -44,8 +46,7 @@ Scope = Name → Option Entity
 
 -- the scope of declarations, the latest first: of two of a name the latest counts (6.2.1)
 abbrev pub declared : List (Name × Entity) → Scope
-declared [] x = None
-declared (d ∷ ds) x = if same_word d.0 x then Some d.1 else declared ds x
+declared ds = named ds
 
 -- the type of a value of a C type; `void` has none
 abbrev pub value_type : CType → Option ValueType

@@ -1,6 +1,6 @@
 ghost use Rattle.c_ast.specs.ConversionLaws.{HeldNumbersStay, ConvertedNumbersAreHeld, ConversionExamples, ConstantExamples};
 ghost use Rattle.c_ast.specs.TargetLaws.{TargetsAreSound, PromotionKeepsValues, SignedCommonKeepsValues};
-ghost use Rattle.c_ast.specs.TargetExamples.{PromotionExamples, CommonExamples, NarrowConstantExamples, NarrowIsSound};
+ghost use Rattle.c_ast.specs.TargetExamples.{PromotionExamples, CommonExamples, NarrowConstantExamples, NarrowIsSound, LowestByteFirst};
 ghost use Rattle.c_ast.specs.Examples.{Exported};
 ghost use Rattle.c_ast.specs.LayoutLaws.{ScalarsInOrder, TypesHaveAlignments};
 ghost use Rattle.c_ast.specs.LayoutExamples.{PaddedExamples, NestedExamples, AlignedExamples, NamedExamples};
@@ -26,11 +26,12 @@ pub fn target_laws()
     ensures narrow { NarrowIsSound }
 {}
 
-/// To which types the integer promotions and the usual arithmetic conversions go.
+/// To which types the integer promotions and the usual arithmetic conversions go, and which byte is first.
 pub fn type_examples()
     ensures promotion { PromotionExamples }
     ensures common { CommonExamples }
     ensures constants { NarrowConstantExamples }
+    ensures byte_order { LowestByteFirst }
 {}
 
 /// What a unit lets the outside call.

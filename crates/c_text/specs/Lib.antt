@@ -1,6 +1,11 @@
 pub mod Identifiers
+pub mod TypeText
+pub mod ExpressionText
+pub mod StatementText
 pub mod Spelling
 pub mod Subset
+pub mod FirstForms
+pub mod Nested
 pub mod Right
 pub mod ReadsBack
 pub mod Laws

@@ -3,4 +3,4 @@
 
 mod laws;
 
-pub use laws::{right_units_read_back, texts_tell_units_apart};
+pub use laws::right_units_read_back;

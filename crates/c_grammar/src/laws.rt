@@ -1,0 +1,16 @@
+ghost use Rattle.c_grammar.specs.Laws.{PiecesAreTheText, PiecesSpellOneUnit, UnitsAreReadExactly};
+
+/// The pieces of a text, joined, are that text.
+pub fn pieces_are_the_text()
+    ensures { PiecesAreTheText }
+{}
+
+/// What is answered of the pieces of a text is exact at each limit.
+pub fn units_are_read_exactly()
+    ensures { UnitsAreReadExactly }
+{}
+
+/// No pieces spell two units, however deep they nest.
+pub fn pieces_spell_one_unit()
+    ensures { PiecesSpellOneUnit }
+{}

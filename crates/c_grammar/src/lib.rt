@@ -1,0 +1,6 @@
+//! The C subset as one grammar over the pieces of a text.
+#![tactic(auto)]
+
+mod laws;
+
+pub use laws::{pieces_are_the_text, pieces_spell_one_unit, units_are_read_exactly};

@@ -4,5 +4,6 @@ pub mod Begins
 pub mod Parts
 pub mod Filled
 pub mod Stages
+pub mod Neighbours
 pub mod Soundness
 pub mod ExampleGrammar

@@ -3,5 +3,6 @@ pub mod Spelled
 pub mod Kinds
 pub mod Reader
 pub mod Checks
+pub mod Neighbours
 pub mod Example
 pub mod Laws

@@ -1,9 +1,12 @@
 -- The static types of expressions and places (C99 6.5), from the declarations of the names in scope alone. Where there is none, a
 -- rule of the text is broken. Operators, `?:` and conditions take numbers alone; of pointers there are names, `*`, `&` and casts.
-use Rattle.std.specs.Prelude.{◌≡◌, ⊤, List, [], ◌∷◌, Bool, true, false, not, ◌||◌, IsTrue, Option, Some, None, if◌then◌else◌}
+use Rattle.std.specs.Prelude.{List, [], ◌∷◌, Bool, true, false, not, ◌&&◌, ◌||◌, Option, Some, None, if◌then◌else◌}
 use Rattle.std.specs.Option.{option_map, option_and_then}
+use denote.Enum.Bare.{sameb}
+use Rattle.iv_words.specs.contracts.kind.IntKind as kinds
 use Rattle.iv_words.specs.Words.{same_word}
 use Rattle.c_ast.specs.declared.types.CScalar.{CScalar}
+use Rattle.c_ast.specs.declared.types.CScalar.TheVariants as scalar
 use Rattle.c_ast.specs.declared.types.Arith.TheVariants.{Int}
 use Rattle.c_ast.specs.declared.types.CKind.{CKind}
 use Rattle.c_ast.specs.declared.types.CKind.TheVariants.{Scalar, Arith as Computed}
@@ -177,14 +180,26 @@ module _ (t : TargetTable) (structs : List CStruct) (scope : Scope) where
 
 -- ---- what is given, and what is assigned to
 
+abbrev pub same_scalar : CScalar → CScalar → Bool
+same_scalar scalar.Truth scalar.Truth = true
+same_scalar scalar.Truth (scalar.Int k) = false
+same_scalar (scalar.Int k) scalar.Truth = false
+same_scalar (scalar.Int k) (scalar.Int l) = sameb kinds.the_type k l
+
+abbrev pub same_base : CBase → CBase → Bool
+same_base (base.Scalar s) (base.Scalar t) = same_scalar s t
+same_base (base.Scalar s) (base.Struct k) = false
+same_base (base.Struct k) (base.Scalar s) = false
+same_base (base.Struct k) (base.Struct l) = same_word k l
+
 -- What may be given where a value of a type is wanted: in a declaration, an assignment, an argument and a return (6.5.16.1, 6.5.2.2,
 -- 6.7.8, 6.8.6.4). Numbers convert; a pointer keeps its base and may gain `const`.
-abbrev pub MayBeGiven : ValueType → CType → Type 0
-MayBeGiven (Arithmetic k) (Value s) = ⊤
-MayBeGiven (PointerTo constant b) (Pointer to_constant to) = (b ≡ to) × IsTrue (not constant || to_constant)
-MayBeGiven (Arithmetic k) (Pointer to_constant to) = ⊥
-MayBeGiven (PointerTo constant b) (Value s) = ⊥
-MayBeGiven v Void = ⊥
+abbrev pub may_be_given : ValueType → CType → Bool
+may_be_given (Arithmetic k) (Value s) = true
+may_be_given (PointerTo constant b) (Pointer to_constant to) = same_base b to && (not constant || to_constant)
+may_be_given (Arithmetic k) (Pointer to_constant to) = false
+may_be_given (PointerTo constant b) (Value s) = false
+may_be_given v Void = false
 
 -- the scalar to which a place may be assigned: no const name, nothing const, no array and no struct (6.5.16)
 abbrev pub assigned_scalar : PlaceType → Option CScalar

@@ -1,2 +1,4 @@
 pub mod Nesting
 pub mod Plain
+pub mod Shallow
+pub mod FirstFault

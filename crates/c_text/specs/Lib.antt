@@ -6,6 +6,14 @@ pub mod Spelling
 pub mod Subset
 pub mod FirstForms
 pub mod Nested
+pub mod Rules
+pub mod Scopes
+pub mod ExpressionRules
+pub mod StatementRules
+pub mod UnitRules
 pub mod Right
 pub mod ReadsBack
+pub mod FirstFault
+pub mod Faults
+pub mod FaultExamples
 pub mod Laws

@@ -1,9 +1,25 @@
 //! Laws of texts, for the layers above: a call of one brings its clause.
 
+ghost use Rattle.c_text.specs.FaultExamples.{FaultExamples, StructFaultExamples};
+ghost use Rattle.c_text.specs.FirstFault.{RightOrAtFault, NotRightAndAtFault, OneFirstFault, SearchFindsIt};
 ghost use Rattle.c_text.specs.Laws.{UnitsNestAsTheyAre, RightUnitsReadBack, FirstTextsTellUnitsApart};
 
 /// A unit of the subset whose names and types are right, and that nests to at most 300 brackets, reads back from its own text.
 pub fn right_units_read_back()
     ensures nested { UnitsNestAsTheyAre }
     ensures back { RightUnitsReadBack }
+{}
+
+/// Names and types of a unit are right, or one of their rules is the first that is broken, and never both.
+pub fn right_or_at_fault()
+    ensures some { RightOrAtFault }
+    ensures other { NotRightAndAtFault }
+    ensures one { OneFirstFault }
+    ensures found { SearchFindsIt }
+{}
+
+/// Which fault small units have first.
+pub fn fault_examples()
+    ensures faults { FaultExamples }
+    ensures structs { StructFaultExamples }
 {}

@@ -1,6 +1,8 @@
 //! The text of the C subset: what bytes spell a unit, and when its names and types are right.
 #![tactic(auto)]
 
+mod fault;
 mod laws;
 
-pub use laws::right_units_read_back;
+pub use fault::{CFault, CWhy};
+pub use laws::{fault_examples, right_or_at_fault, right_units_read_back};

@@ -5,11 +5,11 @@ use Rattle.reading.specs.Row.{Entry, Row}
 use Rattle.reading.specs.Language.{Language, Many}
 use Rattle.reading.proofs.Rows.{append_nil, front_nil, back_nil}
 use Rattle.reading.proofs.Starts.{StartsWith, StartsWithout, first_mark, terminal_nonempty}
-use Rattle.grammars.specs.Grammar.{Lexicon, of_kind, left, right, Rule, empty, token, map, sequence, split, choice, repeat, stages, brackets, stage}
-use Rattle.grammars.specs.Kinds.{holds, when, at_stages, nullable, first}
+use Rattle.grammars.specs.Grammar.{Lexicon, of_kind, Rule, empty, token, map, sequence, split, choice, repeat, stages, brackets, stage}
+use Rattle.grammars.specs.Kinds.{holds, when, at_stages, at_some_stage, nullable, first}
 use Rattle.grammars.specs.Spelled.{InStages, SpellsWith}
 use Rattle.grammars.specs.Reader.{among}
-use Rattle.grammars.proofs.Sets.{holds_left, holds_right, holds_one, holds_when, holds_stage, stage_within, kind_is, pair_true, either_one, either_two}
+use Rattle.grammars.proofs.Sets.{holds_left, holds_right, holds_one, holds_when, holds_stage, some_stage, stage_within, kind_is, pair_true, either_one, either_two}
 
 -- the first token of a list is that of its first element
 many_in : {T A : Type 0} (P : Language T A) (test : T → Bool) → ((a : A) (m : Entry T) (row : Row T) → P a (m ∷ row) → test m.token ≡ true)
@@ -42,10 +42,10 @@ module _ {T N : Type 0} {Tree : N → Type 0} (lexicon : Lexicon T) (d : ℕ) (L
   empty_row (map f p) b row (a, s, is) e = empty_row p a row s e
   empty_row (sequence f p q) c row (a, u, v, at, s, (b, t, is)) e =
       pair_true (nullable p) (nullable q) (empty_row p a u s (sym (front_nil u v (e ∙ at)))) (empty_row q b v t (sym (back_nil u v (e ∙ at))))
-  empty_row (split f g p q r) c row (left a, u, v, at, s, (x, t, is)) e =
-      pair_true (nullable p) (cond (nullable q) true (nullable r)) (empty_row p (left a) u s (sym (front_nil u v (e ∙ at)))) (either_one (nullable q) (nullable r) (empty_row q x v t (sym (back_nil u v (e ∙ at)))))
-  empty_row (split f g p q r) c row (right b, u, v, at, s, (y, t, is)) e =
-      pair_true (nullable p) (cond (nullable q) true (nullable r)) (empty_row p (right b) u s (sym (front_nil u v (e ∙ at)))) (either_two (nullable q) (nullable r) (empty_row r y v t (sym (back_nil u v (e ∙ at)))))
+  empty_row (split last way f p rules) c row (a, u, v, at, s, (b, t, is)) e =
+      let k = stage last (way a) in
+      pair_true (nullable p) (at_some_stage (λ j. nullable (rules j)) last) (empty_row p a u s (sym (front_nil u v (e ∙ at))))
+      (some_stage (λ j. nullable (rules j)) last k (stage_within last (way a)) (empty_row (rules k) b v t (sym (back_nil u v (e ∙ at)))))
   empty_row (choice p q) a row (inl s) e = either_one (nullable p) (nullable q) (empty_row p a row s e)
   empty_row (choice p q) a row (inr s) e = either_two (nullable p) (nullable q) (empty_row q a row s e)
   empty_row (repeat p) xs row s e = refl
@@ -72,10 +72,10 @@ module _ {T N : Type 0} {Tree : N → Type 0} (lexicon : Lexicon T) (d : ℕ) (L
   first_in (map f p) b m row (a, s, is) = first_in p a m row s
   first_in (sequence f p q) c m row (a, u, v, e, s, (b, t, is)) =
       sequence_first p (first q) a m row u v e s (first_in p a) (λ at. first_in q b m row (subst (Rows q b) at t))
-  first_in (split f g p q r) c m row (left a, u, v, e, s, (x, t, is)) =
-      sequence_first p (first q ++ first r) (left a) m row u v e s (first_in p (left a)) (λ at. holds_left (first q) (first r) (lexicon.kind d m.token) (first_in q x m row (subst (Rows q x) at t)))
-  first_in (split f g p q r) c m row (right b, u, v, e, s, (y, t, is)) =
-      sequence_first p (first q ++ first r) (right b) m row u v e s (first_in p (right b)) (λ at. holds_right (first q) (first r) (lexicon.kind d m.token) (first_in r y m row (subst (Rows r y) at t)))
+  first_in (split last way f p rules) c m row (a, u, v, e, s, (b, t, is)) =
+      let k = stage last (way a) in
+      sequence_first p (at_stages (λ j. first (rules j)) last) a m row u v e s (first_in p a)
+      (λ at. holds_stage (λ j. first (rules j)) last k (lexicon.kind d m.token) (stage_within last (way a)) (first_in (rules k) b m row (subst (Rows (rules k) b) at t)))
   first_in (choice p q) a m row (inl s) = holds_left (first p) (first q) (lexicon.kind d m.token) (first_in p a m row s)
   first_in (choice p q) a m row (inr s) = holds_right (first p) (first q) (lexicon.kind d m.token) (first_in q a m row s)
   first_in (repeat p) xs m row s = many_in (Rows p) (among lexicon d (first p)) (first_in p) xs m row s

@@ -2,10 +2,11 @@
 use Rattle.std.proofs.Common.{◌≡◌, ℕ, zero, suc, Bool, true, false, cond, List, [], ◌∷◌, ◌++◌, ◌⊎◌, inl, inr, refl, Option, Some}
 use Rattle.reading.specs.Row.{Entry, Row}
 use Rattle.reading.specs.Language.{Language, Terminal}
-use Rattle.grammars.specs.Grammar.{Lexicon, of_kind, left, right, Side, Rule, empty, token, map, sequence, split, choice, repeat, stages, brackets, Grammar}
-use Rattle.grammars.specs.Spelled.{SpellsWith, Branch, Spells}
+use Rattle.grammars.specs.Grammar.{Lexicon, of_kind, stage, Rule, empty, token, map, sequence, split, choice, repeat, stages, brackets, Grammar}
+use Rattle.grammars.specs.Spelled.{SpellsWith, Spells}
 use Rattle.grammars.specs.Checks.{without_example, clashes, is_filled, filled, Checked}
-use Rattle.grammars.proofs.Sets.{one_true, other_true}
+use Rattle.grammars.specs.Kinds.{at_every_stage}
+use Rattle.grammars.proofs.Sets.{one_true, other_true, every_stage, stage_within}
 use Rattle.grammars.proofs.Parts.{sequence_parts, split_parts, choice_parts, bracket_parts, example_of}
 use Rattle.grammars.proofs.Levels.{to_symbol}
 
@@ -15,10 +16,6 @@ Some_row {T} {A} R = (a : A) × (row : Row T) × R a row
 either_filled : {T A : Type 0} (P Q : Language T A) (a b : Bool) → (a ≡ true → Some_row P) → (b ≡ true → Some_row Q) → cond a true b ≡ true → (x : A) × (row : Row T) × (P x row ⊎ Q x row)
 either_filled P Q true b p q e = let w = p refl in (w.0, w.1, inl w.2)
 either_filled P Q false b p q e = let w = q e in (w.0, w.1, inr w.2)
-
-branch_filled : {T A B X Y C : Type 0} (f : A → X → C) (h : B → Y → C) (P : Language T X) (Q : Language T Y) (s : Side A B) → Some_row P → Some_row Q → Some_row (Branch f h P Q s)
-branch_filled f h P Q (left a) p q = (f a p.0, p.1, (p.0, p.2, refl))
-branch_filled f h P Q (right b) p q = (h b q.0, q.1, (q.0, q.2, refl))
 
 module _ {T N : Type 0} {Tree : N → Type 0} (lexicon : Lexicon T) (g : Grammar T N Tree) where
   example_row : {A : Type 0} (d at k : ℕ) (f : T → Option A) → without_example lexicon g d k f ≡ [] → Some_row (Terminal at (of_kind lexicon d k f))
@@ -37,14 +34,14 @@ module _ {T N : Type 0} {Tree : N → Type 0} (lexicon : Lexicon T) (g : Grammar
       let v = rule_filled d inner L h p c.0 (one_true (is_filled lexicon g inner p) (is_filled lexicon g inner q) e) in
       let w = rule_filled d inner L h q c.1 (other_true (is_filled lexicon g inner p) (is_filled lexicon g inner q) e) in
       (f v.0 w.0, v.1 ++ w.1, (v.0, v.1, w.1, refl, v.2, (w.0, w.2, refl)))
-  rule_filled d inner L h (split f k p q r) s e =
-      let c = split_parts lexicon g d f k p q r s in
-      let u = rule_filled d inner L h p c.0 (one_true (is_filled lexicon g inner p) (cond (is_filled lexicon g inner q) (is_filled lexicon g inner r) false) e) in
-      let both = other_true (is_filled lexicon g inner p) (cond (is_filled lexicon g inner q) (is_filled lexicon g inner r) false) e in
-      let v = rule_filled d inner L h q c.1 (one_true (is_filled lexicon g inner q) (is_filled lexicon g inner r) both) in
-      let w = rule_filled d inner L h r c.2 (other_true (is_filled lexicon g inner q) (is_filled lexicon g inner r) both) in
-      let z = branch_filled f k (SpellsWith lexicon d L q) (SpellsWith lexicon d L r) u.0 v w in
-      (z.0, u.1 ++ z.1, (u.0, u.1, z.1, refl, u.2, z.2))
+  rule_filled d inner L h (split last way f p rules) s e =
+      let c = split_parts lexicon g d last way f p rules s in
+      let every = at_every_stage (λ s. is_filled lexicon g inner (rules s)) last in
+      let u = rule_filled d inner L h p c.0 (one_true (is_filled lexicon g inner p) every e) in
+      let k = stage last (way u.0) in
+      let low = stage_within last (way u.0) in
+      let v = rule_filled d inner L h (rules k) (c.1 k low).0 (every_stage (λ s. is_filled lexicon g inner (rules s)) last k (other_true (is_filled lexicon g inner p) every e) low) in
+      (f u.0 v.0, u.1 ++ v.1, (u.0, u.1, v.1, refl, u.2, (v.0, v.2, refl)))
   rule_filled d inner L h (choice p q) s e =
       let c = choice_parts lexicon g d p q s in
       either_filled (SpellsWith lexicon d L p) (SpellsWith lexicon d L q) (is_filled lexicon g inner p) (is_filled lexicon g inner q)

@@ -2,7 +2,7 @@
 use Rattle.std.proofs.Common.{ℕ, zero, suc, List, [], ◌∷◌, inl, inr}
 use Rattle.reading.specs.Row.{Row}
 use Rattle.reading.specs.Language.{Language, Many}
-use Rattle.grammars.specs.Grammar.{Lexicon, left, right, Rule, empty, token, map, sequence, split, choice, repeat, stages, brackets, Grammar, stage}
+use Rattle.grammars.specs.Grammar.{Lexicon, Rule, empty, token, map, sequence, split, choice, repeat, stages, brackets, Grammar, stage}
 use Rattle.grammars.specs.Spelled.{InStages, SpellsWith, SpellsUpTo, Spells}
 
 many_wider : {T A : Type 0} (P Q : Language T A) → ((a : A) (row : Row T) → P a row → Q a row) → (xs : List A) (row : Row T) → Many P xs row → Many Q xs row
@@ -43,8 +43,7 @@ module _ {T N : Type 0} {Tree : N → Type 0} (lexicon : Lexicon T) where
   wider d P Q h (token k f) b row s = s
   wider d P Q h (map f p) b row (a, s, e) = (a, wider d P Q h p a row s, e)
   wider d P Q h (sequence f p q) c row (a, u, v, e, s, (b, t, is)) = (a, u, v, e, wider d P Q h p a u s, (b, wider d P Q h q b v t, is))
-  wider d P Q h (split f g p q r) c row (left a, u, v, e, s, (x, t, is)) = (left a, u, v, e, wider d P Q h p (left a) u s, (x, wider d P Q h q x v t, is))
-  wider d P Q h (split f g p q r) c row (right b, u, v, e, s, (y, t, is)) = (right b, u, v, e, wider d P Q h p (right b) u s, (y, wider d P Q h r y v t, is))
+  wider d P Q h (split last way f p rules) c row (a, u, v, e, s, (b, t, is)) = (a, u, v, e, wider d P Q h p a u s, (b, wider d P Q h (rules (stage last (way a))) b v t, is))
   wider d P Q h (choice p q) a row (inl s) = inl (wider d P Q h p a row s)
   wider d P Q h (choice p q) a row (inr s) = inr (wider d P Q h q a row s)
   wider d P Q h (repeat p) xs row s = many_wider (SpellsWith lexicon d P p) (SpellsWith lexicon d Q p) (wider d P Q h p) xs row s
@@ -82,14 +81,10 @@ module _ {T N : Type 0} {Tree : N → Type 0} (lexicon : Lexicon T) where
         let i = gather d p a u s in
         let j = gather d q b v t in
         (join i.0 j.0, (a, u, v, e, wide_one d p i.0 j.0 a u i.1, (b, wide_two d q i.0 j.0 b v j.1, is)))
-    gather d (split f g p q r) c row (left a, u, v, e, s, (x, t, is)) =
-        let i = gather d p (left a) u s in
-        let j = gather d q x v t in
-        (join i.0 j.0, (left a, u, v, e, wide_one d p i.0 j.0 (left a) u i.1, (x, wide_two d q i.0 j.0 x v j.1, is)))
-    gather d (split f g p q r) c row (right b, u, v, e, s, (y, t, is)) =
-        let i = gather d p (right b) u s in
-        let j = gather d r y v t in
-        (join i.0 j.0, (right b, u, v, e, wide_one d p i.0 j.0 (right b) u i.1, (y, wide_two d r i.0 j.0 y v j.1, is)))
+    gather d (split last way f p rules) c row (a, u, v, e, s, (b, t, is)) =
+        let i = gather d p a u s in
+        let j = gather d (rules (stage last (way a))) b v t in
+        (join i.0 j.0, (a, u, v, e, wide_one d p i.0 j.0 a u i.1, (b, wide_two d (rules (stage last (way a))) i.0 j.0 b v j.1, is)))
     gather d (choice p q) a row (inl s) = let w = gather d p a row s in (w.0, inl w.1)
     gather d (choice p q) a row (inr s) = let w = gather d q a row s in (w.0, inr w.1)
     gather d (repeat p) xs row s = many_gather (SpellsWith lexicon d (Spells lexicon g (suc d)) p) (UpTo d p) (wide_one d p) (wide_two d p) (gather d p) xs row s

@@ -6,12 +6,12 @@ use Rattle.std.proofs.lemmas.Bool.{eqb-true, and_parts}
 use Rattle.reading.specs.Row.{Entry, Row}
 use Rattle.reading.specs.Language.{Language, Many, Terminal}
 use Rattle.reading.proofs.Rows.{append_nil, has_one, front_nil, only_one, split_at}
-use Rattle.grammars.specs.Grammar.{Lexicon, of_kind, Side, left, right, Rule, empty, token, map, sequence, split, choice, repeat, stages, brackets, Grammar, stage}
-use Rattle.grammars.specs.Kinds.{holds, when, at_stages, nullable, first}
+use Rattle.grammars.specs.Grammar.{Lexicon, of_kind, Rule, empty, token, map, sequence, split, choice, repeat, stages, brackets, Grammar, stage}
+use Rattle.grammars.specs.Kinds.{holds, when, at_stages, at_some_stage, nullable, first}
 use Rattle.grammars.specs.Spelled.{InStages, SpellsWith, SpellsUpTo, Spells}
 use Rattle.grammars.specs.Reader.{among}
 use Rattle.grammars.specs.Neighbours.{SideBySide, clashing, last, meetings}
-use Rattle.grammars.proofs.Sets.{front_none, back_none, holds_left, holds_right, holds_one, holds_when, holds_stage, stage_none, stage_within, kind_is, either_one, either_two}
+use Rattle.grammars.proofs.Sets.{front_none, back_none, holds_left, holds_right, holds_one, holds_when, holds_stage, some_stage, stage_none, stage_within, kind_is, either_one, either_two}
 use Rattle.grammars.proofs.Begins.{stages_in, empty_row, first_in}
 use Rattle.grammars.proofs.Levels.{from_symbol}
 
@@ -107,16 +107,15 @@ module _ {T N : Type 0} {Tree : N → Type 0} (lexicon : Lexicon T) (d : ℕ) (L
       last_of_two f u v m e (EndsIn (last q ++ when (nullable q) (last p)) m)
       (λ g at. either_kinds (last q) (when (nullable q) (last p)) m (last_in q b g m (subst (Rows q b) at t)))
       (λ g at nothing. when_kinds (last q) (last p) m (nullable q) (empty_row lexicon d L q b v t (sym nothing)) (last_in p a g m (subst (Rows p a) at s)))
-  last_in (split h k p q r) c f m (left a, u, v, e, s, (x, t, is)) =
-      let ends = when (cond (nullable q) true (nullable r)) (last p) in
-      last_of_two f u v m e (EndsIn ((last q ++ last r) ++ ends) m)
-      (λ g at. either_kinds (last q ++ last r) ends m (either_kinds (last q) (last r) m (last_in q x g m (subst (Rows q x) at t))))
-      (λ g at nothing. when_kinds (last q ++ last r) (last p) m (cond (nullable q) true (nullable r)) (either_one (nullable q) (nullable r) (empty_row lexicon d L q x v t (sym nothing))) (last_in p (left a) g m (subst (Rows p (left a)) at s)))
-  last_in (split h k p q r) c f m (right b, u, v, e, s, (y, t, is)) =
-      let ends = when (cond (nullable q) true (nullable r)) (last p) in
-      last_of_two f u v m e (EndsIn ((last q ++ last r) ++ ends) m)
-      (λ g at. either_kinds (last q ++ last r) ends m (other_kinds (last q) (last r) m (last_in r y g m (subst (Rows r y) at t))))
-      (λ g at nothing. when_kinds (last q ++ last r) (last p) m (cond (nullable q) true (nullable r)) (either_two (nullable q) (nullable r) (empty_row lexicon d L r y v t (sym nothing))) (last_in p (right b) g m (subst (Rows p (right b)) at s)))
+  last_in (split end way h p rules) c f m (a, u, v, e, s, (b, t, is)) =
+      let k = stage end (way a) in
+      let low = stage_within end (way a) in
+      let all = at_stages (λ j. last (rules j)) end in
+      let some = at_some_stage (λ j. nullable (rules j)) end in
+      last_of_two f u v m e (EndsIn (all ++ when some (last p)) m)
+      (λ g at. let w = last_in (rules k) b g m (subst (Rows (rules k) b) at t) in
+          either_kinds all (when some (last p)) m (w.0, holds_stage (λ j. last (rules j)) end k (lexicon.kind w.0 m.token) low w.1))
+      (λ g at nothing. when_kinds all (last p) m some (some_stage (λ j. nullable (rules j)) end k low (empty_row lexicon d L (rules k) b v t (sym nothing))) (last_in p a g m (subst (Rows p a) at s)))
   last_in (choice p q) a f m (inl s) = either_kinds (last p) (last q) m (last_in p a f m s)
   last_in (choice p q) a f m (inr s) = other_kinds (last p) (last q) m (last_in q a f m s)
   last_in (repeat p) xs f m s = many_last (Rows p) (last p) (last_in p) xs f m s
@@ -194,18 +193,12 @@ module _ {T N : Type 0} {Tree : N → Type 0} (lexicon : Lexicon T) (g : Grammar
     rule_rows (sequence f p q) none c row (a, u, v, e, s, (b, t, is)) =
         let w = three (meetings parted g p) (meetings parted g q) (clashing parted (last p) (first q)) none in
         subst Side_by (sym e) (side_by_side P u v (rule_rows p w.0 a u s) (rule_rows q w.1 b v t) (meet_rules p q (first q) w.2 a b u v s t (λ n y z. first_in lexicon d L q b n y z)))
-    rule_rows (split f h p q r) none c row (left a, u, v, e, s, (x, t, is)) =
-        let w = front_none (meetings parted g p ++ meetings parted g q ++ meetings parted g r) (clashing parted (last p) (first q ++ first r)) none in
-        let z = three (meetings parted g p) (meetings parted g q) (meetings parted g r) w in
-        let apart_here = back_none (meetings parted g p ++ meetings parted g q ++ meetings parted g r) (clashing parted (last p) (first q ++ first r)) none in
-        subst Side_by (sym e) (side_by_side P u v (rule_rows p z.0 (left a) u s) (rule_rows q z.1 x v t)
-        (meet_rules p q (first q ++ first r) apart_here (left a) x u v s t (λ n y i. holds_left (first q) (first r) (lexicon.kind d n.token) (first_in lexicon d L q x n y i))))
-    rule_rows (split f h p q r) none c row (right b, u, v, e, s, (x, t, is)) =
-        let w = front_none (meetings parted g p ++ meetings parted g q ++ meetings parted g r) (clashing parted (last p) (first q ++ first r)) none in
-        let z = three (meetings parted g p) (meetings parted g q) (meetings parted g r) w in
-        let apart_here = back_none (meetings parted g p ++ meetings parted g q ++ meetings parted g r) (clashing parted (last p) (first q ++ first r)) none in
-        subst Side_by (sym e) (side_by_side P u v (rule_rows p z.0 (right b) u s) (rule_rows r z.2 x v t)
-        (meet_rules p r (first q ++ first r) apart_here (right b) x u v s t (λ n y i. holds_right (first q) (first r) (lexicon.kind d n.token) (first_in lexicon d L r x n y i))))
+    rule_rows (split end way f p rules) none c row (a, u, v, e, s, (b, t, is)) =
+        let k = stage end (way a) in
+        let both = at_stages (λ j. meetings parted g (rules j) ++ clashing parted (last p) (first (rules j))) end in
+        let here = stage_none (λ j. meetings parted g (rules j) ++ clashing parted (last p) (first (rules j))) end k (back_none (meetings parted g p) both none) (stage_within end (way a)) in
+        subst Side_by (sym e) (side_by_side P u v (rule_rows p (front_none (meetings parted g p) both none) a u s) (rule_rows (rules k) (front_none (meetings parted g (rules k)) (clashing parted (last p) (first (rules k))) here) b v t)
+        (meet_rules p (rules k) (first (rules k)) (back_none (meetings parted g (rules k)) (clashing parted (last p) (first (rules k))) here) a b u v s t (λ n y z. first_in lexicon d L (rules k) b n y z)))
     rule_rows (choice p q) none a row (inl s) = rule_rows p (front_none (meetings parted g p) (meetings parted g q) none) a row s
     rule_rows (choice p q) none a row (inr s) = rule_rows q (back_none (meetings parted g p) (meetings parted g q) none) a row s
     rule_rows (repeat p) none xs row s =

@@ -4,7 +4,7 @@ use Rattle.std.specs.Prelude.{nat_eq, nat_le, ◌||◌, is_some}
 use Rattle.std.specs.List.{list_any}
 use Rattle.std.proofs.lemmas.Bool.{eqb-true, eqb-false, eq-eqb, leb-true}
 use Rattle.grammars.specs.Grammar.{stage}
-use Rattle.grammars.specs.Kinds.{holds, common, when, at_stages}
+use Rattle.grammars.specs.Kinds.{holds, common, when, at_stages, at_some_stage, at_every_stage}
 
 -- ---- truths
 
@@ -119,6 +119,25 @@ pub holds_stage : (f : ℕ → List ℕ) (last s k : ℕ) → s ≤ last → hol
 holds_stage f zero zero k low h = h
 holds_stage f zero (suc s) k low h = absurd (omega arith)
 holds_stage f (suc last) s k low h = holds_stage_at f last s k (nat_eq s (suc last)) refl (λ less. holds_stage f last s k less h) low h
+
+some_at : (f : ℕ → Bool) (last s : ℕ) (b : Bool) → nat_eq s (suc last) ≡ b → (s ≤ last → at_some_stage f last ≡ true) → s ≤ suc last → f s ≡ true → cond (f (suc last)) true (at_some_stage f last) ≡ true
+some_at f last s true e ih low h = either_one (f (suc last)) (at_some_stage f last) (ap f (sym (eqb-true s (suc last) e)) ∙ h)
+some_at f last s false e ih low h = either_two (f (suc last)) (at_some_stage f last) (let other : s ≢ suc last = eqb-false s (suc last) e in ih (omega (arith, low, other)))
+
+-- what is so at one stage is so at some
+pub some_stage : (f : ℕ → Bool) (last s : ℕ) → s ≤ last → f s ≡ true → at_some_stage f last ≡ true
+some_stage f zero zero low h = h
+some_stage f zero (suc s) low h = absurd (omega arith)
+some_stage f (suc last) s low h = some_at f last s (nat_eq s (suc last)) refl (λ less. some_stage f last s less h) low h
+
+every_at : (f : ℕ → Bool) (last s : ℕ) (b : Bool) → nat_eq s (suc last) ≡ b → (at_every_stage f last ≡ true → s ≤ last → f s ≡ true) → cond (f (suc last)) (at_every_stage f last) false ≡ true → s ≤ suc last → f s ≡ true
+every_at f last s true e ih all low = ap f (eqb-true s (suc last) e) ∙ one_true (f (suc last)) (at_every_stage f last) all
+every_at f last s false e ih all low = let other : s ≢ suc last = eqb-false s (suc last) e in ih (other_true (f (suc last)) (at_every_stage f last) all) (omega (arith, low, other))
+
+pub every_stage : (f : ℕ → Bool) (last s : ℕ) → at_every_stage f last ≡ true → s ≤ last → f s ≡ true
+every_stage f zero zero all low = all
+every_stage f zero (suc s) all low = absurd (omega arith)
+every_stage f (suc last) s all low = every_at f last s (nat_eq s (suc last)) refl (λ rest less. every_stage f last s rest less) all low
 
 -- ---- examples
 

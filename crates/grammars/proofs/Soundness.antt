@@ -14,12 +14,12 @@ use Rattle.reading.proofs.Choice.{good_choose}
 use Rattle.reading.proofs.Repeat.{good_many}
 use Rattle.reading.proofs.Nesting.{Within, barred_within, read_within, good_enclosed}
 use Rattle.reading.proofs.Exactness.{exact, one_value}
-use Rattle.grammars.specs.Grammar.{Lexicon, of_kind, Side, left, right, Rule, empty, token, map, sequence, split, choice, repeat, stages, brackets, Grammar}
-use Rattle.grammars.specs.Kinds.{holds, common, when, at_stages, nullable, first, goes_on}
-use Rattle.grammars.specs.Spelled.{SpellsWith, Branch, Spells}
-use Rattle.grammars.specs.Reader.{among, next, choose_kind, branch, at_symbol, read_with, read}
+use Rattle.grammars.specs.Grammar.{Lexicon, of_kind, stage, Rule, empty, token, map, sequence, split, choice, repeat, stages, brackets, Grammar}
+use Rattle.grammars.specs.Kinds.{holds, common, when, at_stages, at_some_stage, nullable, first, goes_on}
+use Rattle.grammars.specs.Spelled.{SpellsWith, Spells}
+use Rattle.grammars.specs.Reader.{among, next, choose_kind, at_symbol, read_with, read}
 use Rattle.grammars.specs.Checks.{clashes, Checked}
-use Rattle.grammars.proofs.Sets.{holds_left, holds_right, holds_when, holds_self, holds_stage, common_back, kind_is, either_one, either_two}
+use Rattle.grammars.proofs.Sets.{holds_left, holds_right, holds_when, holds_self, holds_stage, some_stage, stage_within, common_back, kind_is, either_one, either_two}
 use Rattle.grammars.proofs.Levels.{to_symbol, from_symbol}
 use Rattle.grammars.proofs.Begins.{empty_row, first_in, starts_with, starts_apart}
 use Rattle.grammars.proofs.Parts.{sequence_parts, split_parts, choice_parts, repeat_parts, stage_parts, bracket_parts, example_of}
@@ -64,21 +64,6 @@ module _ {T N : Type 0} {Tree : N → Type 0} (lexicon : Lexicon T) (g : Grammar
   closes_stop : (d k : ℕ) (xs : List ℕ) (t u : T) → holds xs k ≡ false → of_kind lexicon d k Some t ≡ Some u → among lexicon d xs t ≡ false
   closes_stop d k xs t u e is = ap (holds xs) (sym (eqb-true k (lexicon.kind d t) (kind_is (nat_eq k (lexicon.kind d t)) (Some t) u is))) ∙ e
 
-  branch_good : {A B X Y C : Type 0} (limit : ℕ) (c : T → Bool) (f : A → X → C) (h : B → Y → C) (P : Language T X) (Q : Language T Y) (p : Reader T X) (q : Reader T Y)
-      → Good no_signs limit c P p → Good no_signs limit c Q q → (s : Side A B) → Good no_signs limit c (Branch f h P Q s) (branch f h p q s)
-  branch_good limit c f h P Q p q gp gq (left a) = good_map (f a) gp
-  branch_good limit c f h P Q p q gp gq (right b) = good_map (h b) gq
-
-  branch_first : {A B X Y C : Type 0} (d : ℕ) (f : A → X → C) (h : B → Y → C) (xs : List ℕ) (q : Rule T N Tree X) (r : Rule T N Tree Y) → common xs (first q) ≡ [] → common xs (first r) ≡ []
-      → (s : Side A B) (b : C) (m : Entry T) (row : Row T) → Branch f h (Row_of d q) (Row_of d r) s b (m ∷ row) → among lexicon d xs m.token ≡ false
-  branch_first d f h xs q r e i (left a) b m row w = common_back xs (first q) (lexicon.kind d m.token) e (first_in lexicon d (Spells lexicon g (suc d)) q w.0 m row w.1)
-  branch_first d f h xs q r e i (right a) b m row w = common_back xs (first r) (lexicon.kind d m.token) i (first_in lexicon d (Spells lexicon g (suc d)) r w.0 m row w.1)
-
-  branch_empty : {A B X Y C : Type 0} (d : ℕ) (f : A → X → C) (h : B → Y → C) (q : Rule T N Tree X) (r : Rule T N Tree Y)
-      → (s : Side A B) (b : C) → Branch f h (Row_of d q) (Row_of d r) s b [] → cond (nullable q) true (nullable r) ≡ true
-  branch_empty d f h q r (left a) b w = either_one (nullable q) (nullable r) (empty_row lexicon d (Spells lexicon g (suc d)) q w.0 [] w.1 refl)
-  branch_empty d f h q r (right a) b w = either_two (nullable q) (nullable r) (empty_row lexicon d (Spells lexicon g (suc d)) r w.0 [] w.1 refl)
-
   module _ (c : Checked lexicon g) where
     good_rule : {A : Type 0} (limit d : ℕ) → d ≤ limit → (inner : Option ((n : N) → Reader T (Tree n))) → Inner limit d inner → (r : Rule T N Tree A) → clashes lexicon g d r ≡ []
         → Good no_signs limit (After d r) (Row_of d r) (read_with lexicon d inner r)
@@ -92,16 +77,20 @@ module _ {T N : Type 0} {Tree : N → Type 0} (lexicon : Lexicon T) (g : Grammar
         (λ a. good_map (f a) (good_wider (λ t e. holds_left (goes_on q) (when (nullable q) (goes_on p)) (lexicon.kind d t) e) (good_rule limit d fits inner h q w.1)))
         (λ a b m row x. common_back (goes_on p) (first q) (lexicon.kind d m.token) w.2 (first_in lexicon d L q x.0 m row x.1))
         (λ a b x t e. holds_when (goes_on q) (goes_on p) (lexicon.kind d t) (nullable q) (empty_row lexicon d L q x.0 [] x.1 refl) e)
-    good_rule limit d fits inner h (split f k p q r) s =
-        let w = split_parts lexicon g d f k p q r s in
-        let ends = when (cond (nullable q) true (nullable r)) (goes_on p) in
-        let all = goes_on q ++ goes_on r in
+    good_rule limit d fits inner h (split last way f p rules) s =
+        let L = Spells lexicon g (suc d) in
+        let w = split_parts lexicon g d last way f p rules s in
+        let at : ℕ → List ℕ = λ k. goes_on (rules k) in
+        let ends = when (at_some_stage (λ k. nullable (rules k)) last) (goes_on p) in
         good_then (good_rule limit d fits inner h p w.0)
-        (branch_good limit (among lexicon d (all ++ ends)) f k (Row_of d q) (Row_of d r) (read_with lexicon d inner q) (read_with lexicon d inner r)
-        (good_wider (λ t e. holds_left all ends (lexicon.kind d t) (holds_left (goes_on q) (goes_on r) (lexicon.kind d t) e)) (good_rule limit d fits inner h q w.1))
-        (good_wider (λ t e. holds_left all ends (lexicon.kind d t) (holds_right (goes_on q) (goes_on r) (lexicon.kind d t) e)) (good_rule limit d fits inner h r w.2)))
-        (branch_first d f k (goes_on p) q r w.3 w.4)
-        (λ a b x t e. holds_when all (goes_on p) (lexicon.kind d t) (cond (nullable q) true (nullable r)) (branch_empty d f k q r a b x) e)
+        (λ a. let k = stage last (way a) in
+            let low = stage_within last (way a) in
+            good_map (f a) (good_wider (λ t e. holds_left (at_stages at last) ends (lexicon.kind d t) (holds_stage at last k (lexicon.kind d t) low e)) (good_rule limit d fits inner h (rules k) (w.1 k low).0)))
+        (λ a b m row x. let k = stage last (way a) in
+            common_back (goes_on p) (first (rules k)) (lexicon.kind d m.token) (w.1 k (stage_within last (way a))).1 (first_in lexicon d L (rules k) x.0 m row x.1))
+        (λ a b x t e. let k = stage last (way a) in
+            holds_when (at_stages at last) (goes_on p) (lexicon.kind d t) (at_some_stage (λ k. nullable (rules k)) last)
+            (some_stage (λ k. nullable (rules k)) last k (stage_within last (way a)) (empty_row lexicon d L (rules k) x.0 [] x.1 refl)) e)
     good_rule limit d fits inner h (choice p q) s =
         let L = Spells lexicon g (suc d) in
         let w = choice_parts lexicon g d p q s in

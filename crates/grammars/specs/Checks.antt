@@ -3,7 +3,7 @@ use Rattle.std.specs.Prelude.{◌≡◌, ℕ, zero, suc, Bool, true, false, cond
 use Rattle.std.specs.List.{list_any}
 use Rattle.grammars.specs.Grammar as grammar
 use Rattle.grammars.specs.Grammar.{Lexicon, of_kind, Rule, empty, token, sequence, split, choice, repeat, stages, brackets, Grammar}
-use Rattle.grammars.specs.Kinds.{common, when, at_stages, nullable, first, goes_on}
+use Rattle.grammars.specs.Kinds.{common, when, at_stages, at_every_stage, nullable, first, goes_on}
 
 -- what is wrong, and with which kind of token
 pub data Clash : Type 0 where
@@ -35,7 +35,7 @@ module _ {T N : Type 0} {Tree : N → Type 0} (lexicon : Lexicon T) (g : Grammar
   clashes d (token k f) = without_example d k f
   clashes d (grammar.map f p) = clashes d p
   clashes d (sequence f p q) = clashes d p ++ clashes d q ++ behind p q
-  clashes d (split f h p q r) = clashes d p ++ clashes d q ++ clashes d r ++ behind p q ++ behind p r
+  clashes d (split last way f p rules) = clashes d p ++ at_stages (λ s. clashes d (rules s) ++ behind p (rules s)) last
   clashes d (choice p q) = clashes d p ++ clashes d q ++ never_empty p ++ map Either (common (first p) (0 ∷ first q))
   clashes d (repeat p) = clashes d p ++ never_empty p ++ behind p p
   clashes d (stages last rank rules) = at_stages (λ s. clashes d (rules s) ++ never_empty (rules s) ++ at_stages (λ t. behind (rules s) (rules t)) last) last
@@ -47,7 +47,7 @@ module _ {T N : Type 0} {Tree : N → Type 0} (lexicon : Lexicon T) (g : Grammar
   is_filled inner (token k f) = true
   is_filled inner (grammar.map f p) = is_filled inner p
   is_filled inner (sequence f p q) = cond (is_filled inner p) (is_filled inner q) false
-  is_filled inner (split f h p q r) = cond (is_filled inner p) (cond (is_filled inner q) (is_filled inner r) false) false
+  is_filled inner (split last way f p rules) = cond (is_filled inner p) (at_every_stage (λ s. is_filled inner (rules s)) last) false
   is_filled inner (choice p q) = cond (is_filled inner p) true (is_filled inner q)
   is_filled inner (repeat p) = true
   is_filled inner (stages last rank rules) = true

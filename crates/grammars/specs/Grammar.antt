@@ -11,10 +11,9 @@ pub record Lexicon (T : Type 0) : Type 0 where
 abbrev pub of_kind : {T A : Type 0} → Lexicon T → ℕ → ℕ → (T → Option A) → T → Option A
 of_kind lexicon d k f t = cond (nat_eq k (lexicon.kind d t)) (f t) None
 
--- one of two, each of which goes on in its own way
-pub data Side (A B : Type 0) : Type 0 where
-  left : A → Side A B
-  right : B → Side A B
+-- the number of a way or a stage, which is at most the last
+abbrev pub stage : ℕ → ℕ → ℕ
+stage last rank = cond (nat_le rank last) rank last
 
 pub data Rule (T N : Type 0) (Tree : N → Type 0) : Type 0 → Type 1 where
   -- nothing, with this value
@@ -23,8 +22,8 @@ pub data Rule (T N : Type 0) (Tree : N → Type 0) : Type 0 → Type 1 where
   token : {A : Type 0} → ℕ → (T → Option A) → Rule T N Tree A
   map : {A B : Type 0} → (A → B) → Rule T N Tree A → Rule T N Tree B
   sequence : {A B C : Type 0} → (A → B → C) → Rule T N Tree A → Rule T N Tree B → Rule T N Tree C
-  -- what comes first tells which of two follows
-  split : {A B X Y C : Type 0} → (A → X → C) → (B → Y → C) → Rule T N Tree (Side A B) → Rule T N Tree X → Rule T N Tree Y → Rule T N Tree C
+  -- the value of what comes first tells which of several ways it goes on
+  split : {A C : Type 0} {Y : ℕ → Type 0} (last : ℕ) (way : A → ℕ) → ((a : A) → Y (stage last (way a)) → C) → Rule T N Tree A → ((s : ℕ) → Rule T N Tree (Y s)) → Rule T N Tree C
   choice : {A : Type 0} → Rule T N Tree A → Rule T N Tree A → Rule T N Tree A
   repeat : {A : Type 0} → Rule T N Tree A → Rule T N Tree (List A)
   -- a list in stages, from 0 to the last: what comes tells by its rank at which stage the list is from then on
@@ -34,10 +33,6 @@ pub data Rule (T N : Type 0) (Tree : N → Type 0) : Type 0 → Type 1 where
 
 abbrev pub Grammar : (T N : Type 0) → (N → Type 0) → Type 1
 Grammar T N Tree = (n : N) → Rule T N Tree (Tree n)
-
--- the stage behind what has this rank
-abbrev pub stage : ℕ → ℕ → ℕ
-stage last rank = cond (nat_le rank last) rank last
 
 -- ---- in other words
 

@@ -16,10 +16,19 @@ abbrev pub when : {A : Type 0} → Bool → List A → List A
 when true xs = xs
 when false xs = []
 
--- what there is at one of the stages up to the last
+-- what there is at one of the ways or stages up to the last
 abbrev pub at_stages : {A : Type 0} → (ℕ → List A) → ℕ → List A
 at_stages f zero = f 0
 at_stages f (suc n) = f (suc n) ++ at_stages f n
+
+-- whether it is so at one of them
+abbrev pub at_some_stage : (ℕ → Bool) → ℕ → Bool
+at_some_stage f zero = f 0
+at_some_stage f (suc n) = cond (f (suc n)) true (at_some_stage f n)
+
+abbrev pub at_every_stage : (ℕ → Bool) → ℕ → Bool
+at_every_stage f zero = f 0
+at_every_stage f (suc n) = cond (f (suc n)) (at_every_stage f n) false
 
 module _ {T N : Type 0} {Tree : N → Type 0} where
   abbrev pub nullable : {A : Type 0} → Rule T N Tree A → Bool
@@ -27,7 +36,7 @@ module _ {T N : Type 0} {Tree : N → Type 0} where
   nullable (token k f) = false
   nullable (map f p) = nullable p
   nullable (sequence f p q) = cond (nullable p) (nullable q) false
-  nullable (split f g p q r) = cond (nullable p) (cond (nullable q) true (nullable r)) false
+  nullable (split last way f p rules) = cond (nullable p) (at_some_stage (λ s. nullable (rules s)) last) false
   nullable (choice p q) = cond (nullable p) true (nullable q)
   nullable (repeat p) = true
   nullable (stages last rank rules) = true
@@ -38,7 +47,7 @@ module _ {T N : Type 0} {Tree : N → Type 0} where
   first (token k f) = k ∷ []
   first (map f p) = first p
   first (sequence f p q) = first p ++ when (nullable p) (first q)
-  first (split f g p q r) = first p ++ when (nullable p) (first q ++ first r)
+  first (split last way f p rules) = first p ++ when (nullable p) (at_stages (λ s. first (rules s)) last)
   first (choice p q) = first p ++ first q
   first (repeat p) = first p
   first (stages last rank rules) = at_stages (λ s. first (rules s)) last
@@ -49,7 +58,7 @@ module _ {T N : Type 0} {Tree : N → Type 0} where
   goes_on (token k f) = []
   goes_on (map f p) = goes_on p
   goes_on (sequence f p q) = goes_on q ++ when (nullable q) (goes_on p)
-  goes_on (split f g p q r) = (goes_on q ++ goes_on r) ++ when (cond (nullable q) true (nullable r)) (goes_on p)
+  goes_on (split last way f p rules) = at_stages (λ s. goes_on (rules s)) last ++ when (at_some_stage (λ s. nullable (rules s)) last) (goes_on p)
   goes_on (choice p q) = (goes_on p ++ goes_on q) ++ when (nullable q) (first p)
   goes_on (repeat p) = first p ++ goes_on p
   goes_on (stages last rank rules) = at_stages (λ s. first (rules s) ++ goes_on (rules s)) last

@@ -3,7 +3,7 @@ use Rattle.std.specs.Prelude.{ℕ, Bool, true, cond, List, [], ◌∷◌, ◌++�
 use Rattle.std.specs.List.{list_all}
 use Rattle.reading.specs.Row.{Row}
 use Rattle.grammars.specs.Grammar.{Rule, empty, token, map, sequence, split, choice, repeat, stages, brackets, Grammar}
-use Rattle.grammars.specs.Kinds.{when, at_stages, nullable, first}
+use Rattle.grammars.specs.Kinds.{when, at_stages, at_some_stage, nullable, first}
 
 -- each token of the row and the next
 abbrev pub SideBySide : {T : Type 0} → (T → T → Type 0) → Row T → Type 0
@@ -23,7 +23,7 @@ module _ {T N : Type 0} {Tree : N → Type 0} where
   last (token k f) = k ∷ []
   last (map f p) = last p
   last (sequence f p q) = last q ++ when (nullable q) (last p)
-  last (split f g p q r) = (last q ++ last r) ++ when (cond (nullable q) true (nullable r)) (last p)
+  last (split end way f p rules) = at_stages (λ s. last (rules s)) end ++ when (at_some_stage (λ s. nullable (rules s)) end) (last p)
   last (choice p q) = last p ++ last q
   last (repeat p) = last p
   last (stages end rank rules) = at_stages (λ s. last (rules s)) end
@@ -35,7 +35,7 @@ module _ {T N : Type 0} {Tree : N → Type 0} where
   meetings parted g (token k f) = []
   meetings parted g (map f p) = meetings parted g p
   meetings parted g (sequence f p q) = meetings parted g p ++ meetings parted g q ++ clashing parted (last p) (first q)
-  meetings parted g (split f h p q r) = meetings parted g p ++ meetings parted g q ++ meetings parted g r ++ clashing parted (last p) (first q ++ first r)
+  meetings parted g (split end way f p rules) = meetings parted g p ++ at_stages (λ s. meetings parted g (rules s) ++ clashing parted (last p) (first (rules s))) end
   meetings parted g (choice p q) = meetings parted g p ++ meetings parted g q
   meetings parted g (repeat p) = meetings parted g p ++ clashing parted (last p) (first p)
   meetings parted g (stages end rank rules) = at_stages (λ s. meetings parted g (rules s)) end ++ clashing parted (at_stages (λ s. last (rules s)) end) (at_stages (λ s. first (rules s)) end)

@@ -2,12 +2,8 @@
 use Rattle.std.specs.Prelude.{ℕ, zero, suc, ◌+◌, Bool, cond, List, [], ◌∷◌, length, Option, Some, None}
 use Rattle.reading.specs.Row.{starts}
 use Rattle.reading.specs.Reader.{Reader, Done, and_then, mapped, ◌<$>◌, ◌>>=◌, give, accept, many, enclosed}
-use Rattle.grammars.specs.Grammar.{Lexicon, of_kind, Side, left, right, Rule, empty, token, map, sequence, split, choice, repeat, stages, brackets, Grammar, stage}
+use Rattle.grammars.specs.Grammar.{Lexicon, of_kind, Rule, empty, token, map, sequence, split, choice, repeat, stages, brackets, Grammar, stage}
 use Rattle.grammars.specs.Kinds.{holds, first}
-
-abbrev pub branch : {T A B X Y C : Type 0} → (A → X → C) → (B → Y → C) → Reader T X → Reader T Y → Side A B → Reader T C
-branch f g p q (left a) = f a <$> p
-branch f g p q (right b) = g b <$> q
 
 -- the reader of this symbol, where symbols can be read
 abbrev pub at_symbol : {T N : Type 0} {Tree : N → Type 0} → Option ((n : N) → Reader T (Tree n)) → (n : N) → Option (Reader T (Tree n))
@@ -43,7 +39,7 @@ module _ {T N : Type 0} {Tree : N → Type 0} (lexicon : Lexicon T) where
   read_with d inner (token k f) = accept (of_kind lexicon d k f)
   read_with d inner (map f p) = f <$> read_with d inner p
   read_with d inner (sequence f p q) = read_with d inner p >>= λ a. f a <$> read_with d inner q
-  read_with d inner (split f g p q r) = read_with d inner p >>= branch f g (read_with d inner q) (read_with d inner r)
+  read_with d inner (split last way f p rules) = read_with d inner p >>= λ a. f a <$> read_with d inner (rules (stage last (way a)))
   read_with d inner (choice p q) = choose_kind lexicon d (first p) (read_with d inner p) (read_with d inner q)
   read_with d inner (repeat p) = many (among lexicon d (first p)) (read_with d inner p)
   read_with d inner (stages last rank rules) = in_stages last rank (λ s. among lexicon d (first (rules s))) (λ s. read_with d inner (rules s)) 0

@@ -2,11 +2,7 @@
 use Rattle.std.specs.Prelude.{◌≡◌, ℕ, zero, suc, List, [], ◌∷◌, ◌++◌, Some}
 use Rattle.reading.specs.Row.{Row}
 use Rattle.reading.specs.Language.{Language, Given, Terminal, Mapped, Then, Either, Many, Enclosed}
-use Rattle.grammars.specs.Grammar.{Lexicon, of_kind, Side, left, right, Rule, empty, token, map, sequence, split, choice, repeat, stages, brackets, Grammar, stage}
-
-abbrev pub Branch : {T A B X Y C : Type 0} → (A → X → C) → (B → Y → C) → Language T X → Language T Y → Side A B → Language T C
-Branch f g P Q (left a) = Mapped (f a) P
-Branch f g P Q (right b) = Mapped (g b) Q
+use Rattle.grammars.specs.Grammar.{Lexicon, of_kind, Rule, empty, token, map, sequence, split, choice, repeat, stages, brackets, Grammar, stage}
 
 -- a list from a stage on
 abbrev pub InStages : {T A : Type 0} → ℕ → (A → ℕ) → (ℕ → Language T A) → ℕ → Language T (List A)
@@ -20,7 +16,7 @@ module _ {T N : Type 0} {Tree : N → Type 0} (lexicon : Lexicon T) where
   SpellsWith d inner (token k f) = Terminal d (of_kind lexicon d k f)
   SpellsWith d inner (map f p) = Mapped f (SpellsWith d inner p)
   SpellsWith d inner (sequence f p q) = Then (SpellsWith d inner p) (λ a. Mapped (f a) (SpellsWith d inner q))
-  SpellsWith d inner (split f g p q r) = Then (SpellsWith d inner p) (Branch f g (SpellsWith d inner q) (SpellsWith d inner r))
+  SpellsWith d inner (split last way f p rules) = Then (SpellsWith d inner p) (λ a. Mapped (f a) (SpellsWith d inner (rules (stage last (way a)))))
   SpellsWith d inner (choice p q) = Either (SpellsWith d inner p) (SpellsWith d inner q)
   SpellsWith d inner (repeat p) = Many (SpellsWith d inner p)
   SpellsWith d inner (stages last rank rules) = InStages last rank (λ s. SpellsWith d inner (rules s)) 0

@@ -1,6 +1,6 @@
 -- Expressions, places, calls and initializers of the C subset. What begins with `(` is read up to what stands in it before it is
 -- known what it is: `(*E)`, `(&L)`, `(-E)`, `((S)E)`, `(E op E)`, `(E ? E : E)`.
-use Rattle.std.specs.Prelude.{ℕ, zero, Bool, true, false, List, [], ◌∷◌, Option, Some, None, if◌then◌else◌}
+use Rattle.std.specs.Prelude.{ℕ, zero, suc, ⊤, Bool, true, false, List, [], ◌∷◌, Option, Some, None, if◌then◌else◌}
 use Rattle.c_ast.specs.declared.types.CType.{CType}
 use Rattle.c_ast.specs.declared.expr.Suffix.{Suffix}
 use Rattle.c_ast.specs.declared.expr.Suffix.TheVariants.{Plain}
@@ -8,9 +8,9 @@ use Rattle.c_ast.specs.declared.expr.CUnary.TheVariants.{Neg, Flip, Not}
 use Rattle.c_ast.specs.declared.expr.CBinary.{CBinary}
 use Rattle.c_ast.specs.declared.expr.CBinary.TheVariants.{Add, Sub, Mul, Div, Rem, And, Or, Xor, Shl, Shr, Eq, Ne, Lt, Le, Gt, Ge, AndAlso, OrElse}
 use Rattle.c_ast.specs.Syntax.{Name, Expr, Number, Read, Address, Unary, Binary, Cast, Cond, Place, Var, At, Member, Element, Init, One, Zero, Many, Inits, NoInits, MoreInits}
-use Rattle.grammars.specs.Grammar.{Side, left, right, token, empty, map, sequence, split, choice, repeat, after, before, optional, separated}
+use Rattle.grammars.specs.Grammar.{token, empty, map, sequence, split, stage, choice, repeat, after, before, optional, separated}
 use Rattle.c_grammar.specs.Kinds.{number_word, number_of}
-use Rattle.c_grammar.specs.Symbols.{Symbol, an_expression, a_pointer, an_inner, an_inside, arguments, initializers, Rule, mark, blank, comma, star, parens, squares, braces, pair}
+use Rattle.c_grammar.specs.Symbols.{Side, left, right, Inside, type_inside, pointer_inside, value_inside_it, Symbol, an_expression, a_pointer, an_inner, an_inside, arguments, initializers, Rule, mark, blank, comma, star, parens, squares, braces, pair}
 use Rattle.c_grammar.specs.TypeRules.{name, value_type}
 
 -- ---- places
@@ -57,14 +57,25 @@ number = map number_expr (token number_word number_of)
 abbrev pub operand : Rule Expr
 operand = choice number (map Read place_of_name)
 
-abbrev pub read_behind : Expr → List Step → Expr
-read_behind e steps = Read (place_behind e steps)
+-- behind `(*E)` stand steps, behind any other expression in parentheses nothing
+abbrev pub inner_way : Side Expr Expr → ℕ
+inner_way (left e) = 0
+inner_way (right e) = 1
 
-abbrev pub itself : Expr → ℕ → Expr
-itself e _ = e
+abbrev pub BehindInner : ℕ → Type 0
+BehindInner zero = List Step
+BehindInner (suc n) = ⊤
+
+abbrev pub behind_inner : (s : ℕ) → Rule (BehindInner s)
+behind_inner zero = repeat step
+behind_inner (suc n) = empty tt
+
+abbrev pub inner_value : (a : Side Expr Expr) → BehindInner (stage 1 (inner_way a)) → Expr
+inner_value (left e) steps = Read (place_behind e steps)
+inner_value (right e) nothing = e
 
 abbrev pub in_parens : Rule Expr
-in_parens = split read_behind itself (parens an_inner) (repeat step) (empty 0)
+in_parens = split {Y = BehindInner} 1 inner_way inner_value (parens an_inner) behind_inner
 
 unfoldable pub expression : Rule Expr
 expression = choice operand in_parens
@@ -104,18 +115,29 @@ tail = after blank (choice (map left binary_tail) (map right cond_tail))
 
 -- ---- in parentheses
 
--- `(T)`, or an operand that begins with `(`
-abbrev pub operand_behind : Expr → List Step → Side CType Expr
-operand_behind e steps = right (read_behind e steps)
+-- behind `(*E)` stand steps and the tail, behind `(T)` the expression that it is put before, behind any other operand the tail
+abbrev pub inside_way : Inside → ℕ
+inside_way (pointer_inside e) = 0
+inside_way (type_inside t) = 1
+inside_way (value_inside_it e) = 2
 
-abbrev pub this_side : Side CType Expr → ℕ → Side CType Expr
-this_side s _ = s
+abbrev pub BehindInside : ℕ → Type 0
+BehindInside zero = List Step × Tail
+BehindInside (suc zero) = Expr
+BehindInside (suc (suc n)) = Tail
 
-abbrev pub type_or_operand : Rule (Side CType Expr)
-type_or_operand = split operand_behind this_side (parens an_inside) (repeat step) (empty 0)
+abbrev pub behind_inside : (s : ℕ) → Rule (BehindInside s)
+behind_inside zero = sequence pair (repeat step) tail
+behind_inside (suc zero) = expression
+behind_inside (suc (suc n)) = tail
+
+abbrev pub inside_value : (a : Inside) → BehindInside (stage 2 (inside_way a)) → Expr
+inside_value (pointer_inside e) (steps, t) = with_tail (Read (place_behind e steps)) t
+inside_value (type_inside t) e = Cast t e
+inside_value (value_inside_it e) t = with_tail e t
 
 abbrev pub cast_or_tail : Rule Expr
-cast_or_tail = split Cast with_tail type_or_operand expression tail
+cast_or_tail = split {Y = BehindInside} 2 inside_way inside_value (parens an_inside) behind_inside
 
 abbrev pub address : Rule Expr
 address = map Address (after (mark 38) place)
@@ -135,14 +157,8 @@ pointer_rule = after star expression
 abbrev pub inner_rule : Rule (Side Expr Expr)
 inner_rule = choice (map left pointer_rule) (map right value_inside)
 
-abbrev pub the_type : CType → Side Expr (Side CType Expr)
-the_type t = right (left t)
-
-abbrev pub the_value : Expr → Side Expr (Side CType Expr)
-the_value e = right (right e)
-
-abbrev pub inside_rule : Rule (Side Expr (Side CType Expr))
-inside_rule = choice (map the_type value_type) (choice (map left pointer_rule) (map the_value value_inside))
+abbrev pub inside_rule : Rule Inside
+inside_rule = choice (map type_inside value_type) (choice (map pointer_inside pointer_rule) (map value_inside_it value_inside))
 
 -- ---- calls and initializers
 

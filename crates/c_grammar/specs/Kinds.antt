@@ -1,5 +1,5 @@
 -- The kinds of pieces, and the values of those that are not written out in the grammar.
-use Rattle.std.specs.Prelude.{ℕ, zero, suc, ◌+◌, ◌*◌, ◌-◌, ◌^◌, ◌&&◌, ◌==◌, not, nat_le, nat_lt, nat_eq, Bool, true, false, if◌then◌else◌, List, [], ◌∷◌, length, codes, Option, Some, None, is_some}
+use Rattle.std.specs.Prelude.{ℕ, zero, suc, ◌+◌, ◌*◌, ◌-◌, ◌^◌, ◌&&◌, ◌||◌, ◌==◌, not, nat_le, nat_lt, nat_eq, Bool, true, false, if◌then◌else◌, List, [], ◌∷◌, length, codes, Option, Some, None, is_some}
 use Rattle.std.specs.List.{list_all}
 use Rattle.iv_words.specs.declared.kind.IntKind.TheVariants.{U8, U16, U32, U64, I8, I16, I32, I64}
 use Rattle.iv_words.specs.Words.{same_word}
@@ -41,7 +41,7 @@ behind_digits (b ∷ bs) = if is_digit b then behind_digits bs else b ∷ bs
 
 abbrev pub value_behind : ℕ → List ℕ → ℕ
 value_behind n [] = n
-value_behind n (b ∷ bs) = value_behind (10 * n + (b - 48)) bs
+value_behind n (b ∷ bs) = value_behind (n * 10 + (b - 48)) bs
 
 abbrev pub with_suffix : ℕ → Option Suffix → Option (ℕ × Suffix)
 with_suffix n None = None
@@ -193,6 +193,22 @@ kind_of d (Byte b) = 256 + b
 
 abbrev pub kind : ℕ → Piece → ℕ
 kind d p = if is_whole p then kind_of d p else other
+
+-- that one piece ends where the other begins cannot be seen: two words, or blanks and blanks
+abbrev pub runs_on : Piece → Piece → Bool
+runs_on (Word v) (Word w) = true
+runs_on (Blanks m) (Blanks n) = true
+runs_on _ _ = false
+
+abbrev pub is_wordy : ℕ → Bool
+is_wordy k = nat_lt k 50 || k == other
+
+abbrev pub is_blanky : ℕ → Bool
+is_blanky k = nat_le 50 k && nat_le k other
+
+-- such kinds do not run on
+abbrev pub parted : ℕ → ℕ → Bool
+parted j k = not (j == other) && (not (k == other) && (not (is_wordy j && is_wordy k) && not (is_blanky j && is_blanky k)))
 
 abbrev pub word_at : ℕ → List (List ℕ) → List ℕ
 word_at k [] = []

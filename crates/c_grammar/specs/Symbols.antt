@@ -5,7 +5,7 @@ use Rattle.c_ast.specs.declared.unit.CMember.{CMember}
 use Rattle.c_ast.specs.declared.unit.CParam.{CParam}
 use Rattle.c_ast.specs.Syntax.{Expr, Init, Stmts, TranslationUnit}
 use Rattle.grammars.specs.Grammar as rules
-use Rattle.grammars.specs.Grammar.{Side, token, brackets, after}
+use Rattle.grammars.specs.Grammar.{token, brackets, after}
 use Rattle.c_grammar.specs.Pieces.{Piece, Word, Blanks, Byte}
 use Rattle.c_grammar.specs.Kinds.{exactly, kw_if, kw_else, kw_for, kw_break, kw_return, kw_static, kw_extern, kw_void, kw_struct, kw_const, name_word, one_blank, indentation, outdentation}
 
@@ -20,11 +20,22 @@ pub data Symbol : Type 0 where
   the_types the_params stop_params : Symbol
   a_unit : Symbol
 
+-- one of two
+pub data Side (A B : Type 0) : Type 0 where
+  left : A → Side A B
+  right : B → Side A B
+
+-- what stands in two parentheses: a type, `*E`, or the rest of a value
+pub data Inside : Type 0 where
+  type_inside : CType → Inside
+  pointer_inside : Expr → Inside
+  value_inside_it : Expr → Inside
+
 abbrev pub Tree : Symbol → Type 0
 Tree an_expression = Expr
 Tree a_pointer = Expr
 Tree an_inner = Side Expr Expr
-Tree an_inside = Side Expr (Side CType Expr)
+Tree an_inside = Inside
 Tree arguments = List Expr
 Tree initializers = Init
 Tree a_length = ℕ

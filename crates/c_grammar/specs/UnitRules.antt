@@ -12,10 +12,10 @@ use Rattle.c_ast.specs.declared.unit.CExtern.{CExtern}
 use Rattle.c_ast.specs.declared.unit.CParam.{CParam}
 use Rattle.c_ast.specs.Syntax.{Name, Init, Stmts, FileObject, Function, TranslationUnit}
 use Rattle.grammars.specs.Grammar as rules
-use Rattle.grammars.specs.Grammar.{Side, left, right, token, empty, sequence, choice, repeat, stages, after, before, optional, separated}
+use Rattle.grammars.specs.Grammar.{token, empty, sequence, choice, repeat, stages, after, before, optional, separated}
 use Rattle.c_grammar.specs.Pieces.{Piece}
 use Rattle.c_grammar.specs.Kinds.{number_word, length_of, indentation}
-use Rattle.c_grammar.specs.Symbols.{Symbol, a_length, a_body, the_members, the_types, the_params, stop_params, Rule, mark, blank, word, keyword, new_line, comma, semicolon, star, word_static, word_extern, word_void, word_struct, word_const, parens, squares, braces, pair}
+use Rattle.c_grammar.specs.Symbols.{Side, left, right, Symbol, a_length, a_body, the_members, the_types, the_params, stop_params, Rule, mark, blank, word, keyword, new_line, comma, semicolon, star, word_static, word_extern, word_void, word_struct, word_const, parens, squares, braces, pair}
 use Rattle.c_grammar.specs.Kinds.{exactly, scalar_word}
 use Rattle.c_grammar.specs.TypeRules.{name, scalar, tag, base, scalar_type, struct_pointer, value_type, held, held_pointer, not_to_const, to_const, pointer_name, typed_name}
 use Rattle.c_grammar.specs.ExpressionRules.{initializer}

@@ -34,14 +34,14 @@ fills stop_params = refl
 fills a_unit = refl
 
 -- the blanks before a statement and before a closing brace are told apart at each depth
-indent_kind : (d : ℕ) → nat_eq indentation (kind d (Blanks (line_blanks d))) ≡ true
+pub indent_kind : (d : ℕ) → nat_eq indentation (kind d (Blanks (line_blanks d))) ≡ true
 indent_kind zero = refl
 indent_kind (suc d) =
     let one : nat_eq (suc (suc (d + d))) 1 ≡ false = ne_eqb (suc (suc (d + d))) 1 (λ e. omega arith) in
     let same : nat_eq (suc (suc (d + d))) (suc (suc (d + d))) ≡ true = eq-eqb (suc (suc (d + d))) (suc (suc (d + d))) refl in
     rw (one, same) refl
 
-outdent_kind : (d : ℕ) → nat_eq outdentation (kind d (Blanks (closing_blanks d))) ≡ true
+pub outdent_kind : (d : ℕ) → nat_eq outdentation (kind d (Blanks (closing_blanks d))) ≡ true
 outdent_kind zero = refl
 outdent_kind (suc zero) = refl
 outdent_kind (suc (suc d)) =

@@ -4,3 +4,4 @@ pub mod Parted
 pub mod Words
 pub mod Written
 pub mod WrittenTypes
+pub mod WrittenExpressions

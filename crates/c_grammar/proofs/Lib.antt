@@ -5,3 +5,6 @@ pub mod Words
 pub mod Written
 pub mod WrittenTypes
 pub mod WrittenExpressions
+pub mod WrittenLists
+pub mod WrittenStatements
+pub mod WrittenUnits

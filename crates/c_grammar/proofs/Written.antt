@@ -84,11 +84,11 @@ in_brackets {d} {o} {c} {n} {x} {t} p q e h w =
       makes = ap (λ s. piece_text p ++ s) (two_texts w.row (k ∷ []) t (piece_text q) w.makes (append_nil (piece_text q)));
     }
 
-pub in_parens : {d : ℕ} {n : Symbol} {x : Tree n} {t : List ℕ} → Written (suc d) (grammar n) x t → Written d (parens n) x (40 ∷ (t ++ 41 ∷ []))
-in_parens w = in_brackets (Byte 40) (Byte 41) refl refl w
+pub within_parens : {d : ℕ} {n : Symbol} {x : Tree n} {t : List ℕ} → Written (suc d) (grammar n) x t → Written d (parens n) x (40 ∷ (t ++ 41 ∷ []))
+within_parens w = in_brackets (Byte 40) (Byte 41) refl refl w
 
-pub in_squares : {d : ℕ} {n : Symbol} {x : Tree n} {t : List ℕ} → Written (suc d) (grammar n) x t → Written d (squares n) x (91 ∷ (t ++ 93 ∷ []))
-in_squares w = in_brackets (Byte 91) (Byte 93) refl refl w
+pub within_squares : {d : ℕ} {n : Symbol} {x : Tree n} {t : List ℕ} → Written (suc d) (grammar n) x t → Written d (squares n) x (91 ∷ (t ++ 93 ∷ []))
+within_squares w = in_brackets (Byte 91) (Byte 93) refl refl w
 
-pub in_braces : {d : ℕ} {n : Symbol} {x : Tree n} {t : List ℕ} → Written (suc d) (grammar n) x t → Written d (braces n) x (123 ∷ (t ++ 125 ∷ []))
-in_braces w = in_brackets (Byte 123) (Byte 125) refl refl w
+pub within_braces : {d : ℕ} {n : Symbol} {x : Tree n} {t : List ℕ} → Written (suc d) (grammar n) x t → Written d (braces n) x (123 ∷ (t ++ 125 ∷ []))
+within_braces w = in_brackets (Byte 123) (Byte 125) refl refl w

@@ -22,9 +22,9 @@ use Rattle.c_grammar.specs.Kinds.{lexicon}
 use Rattle.c_grammar.specs.Subset.{grammar}
 use Rattle.c_grammar.specs.Symbols.{Rule, an_expression, a_pointer, an_inner, an_inside, parens, squares, Side, left, right, pair, type_inside, pointer_inside, value_inside_it, star}
 use Rattle.c_grammar.specs.TypeRules.{name}
-use Rattle.c_grammar.specs.ExpressionRules.{Step, step_on, steps_on, named_place, place_behind, step, place_of_name, place, number_expr, operand, expression, binary_operator, Tail, with_tail, tail, value_inside, pointer_rule, BehindInner, BehindInside, behind_inner, inside_way, inside_value, behind_inside}
+use Rattle.c_grammar.specs.ExpressionRules.{Step, step_on, steps_on, named_place, place_behind, step, place_of_name, place, number_expr, number, operand, in_parens, expression, binary_operator, Tail, with_tail, tail, value_inside, pointer_rule, BehindInner, BehindInside, behind_inner, inside_way, inside_value, behind_inside}
 use Rattle.c_grammar.proofs.Words.{number_piece}
-use Rattle.c_grammar.proofs.Written.{Written, as_text, as_value, one_piece, nothing, mapped, in_sequence, ◌then◌, ended, first_of, second_of, by_way, none, more, in_parens, in_squares, in_braces, joined_append}
+use Rattle.c_grammar.proofs.Written.{Written, as_text, as_value, one_piece, nothing, mapped, in_sequence, ◌then◌, ended, first_of, second_of, by_way, none, more, within_parens, within_squares, within_braces, joined_append}
 use Rattle.c_grammar.proofs.WrittenTypes.{a_blank, a_star, name_written, value_type_written}
 
 -- ---- operators
@@ -57,31 +57,44 @@ binary_written Ne = second_of (second_of (second_of (second_of (second_of (secon
 -- ---- what an expression begins with: no parenthesis, one around all of it, or one around a pointer
 
 pub data Form (d : ℕ) (e : Expr) (text : List ℕ) : Type 0 where
-  plain : Written d operand e text → Form d e text
+  numbered : Written d number e text → Form d e text
+  named_first : (x : Name) (steps : List Step) (t : List ℕ) → Read (named_place x steps) ≡ e → IsIdentifier x → Written d (repeat step) steps t → x ++ t ≡ text → Form d e text
   enclosed : (t : List ℕ) → Written (suc d) value_inside e t → 40 ∷ (t ++ 41 ∷ []) ≡ text → Form d e text
   pointed : (p : Expr) (steps : List Step) (s t : List ℕ) → Read (place_behind p steps) ≡ e → Written (suc d) pointer_rule p s → Written d (repeat step) steps t → (40 ∷ (s ++ 41 ∷ [])) ++ t ≡ text → Form d e text
 
-expression_of : {d : ℕ} {e : Expr} {text : List ℕ} → Form d e text → Written d expression e text
-unfolding expression
-expression_of (plain w) = first_of w
-expression_of {d} {e} (enclosed t w is) =
-    let one : Written d (parens an_inner) (right e) (40 ∷ (t ++ 41 ∷ [])) = in_parens {n = an_inner} (second_of (mapped right w)) in
-    let all : Written d expression e ((40 ∷ (t ++ 41 ∷ [])) ++ []) = second_of (by_way {Y = BehindInner} {rest = behind_inner} (right e) tt one nothing) in
+operand_named : {d : ℕ} {e : Expr} {text : List ℕ} (x : Name) (steps : List Step) (t : List ℕ) → Read (named_place x steps) ≡ e → IsIdentifier x → Written d (repeat step) steps t → x ++ t ≡ text → Written d operand e text
+operand_named x steps t same is w e = as_value (as_text (second_of (mapped Read (in_sequence named_place (name_written x is) w))) e) same
+
+pub enclosed_written : {d : ℕ} {e : Expr} {text : List ℕ} (t : List ℕ) → Written (suc d) value_inside e t → 40 ∷ (t ++ 41 ∷ []) ≡ text → Written d in_parens e text
+enclosed_written {d} {e} t w is =
+    let one : Written d (parens an_inner) (right e) (40 ∷ (t ++ 41 ∷ [])) = within_parens {n = an_inner} (second_of (mapped right w)) in
+    let all : Written d in_parens e ((40 ∷ (t ++ 41 ∷ [])) ++ []) = by_way {Y = BehindInner} {rest = behind_inner} (right e) tt one nothing in
     as_text all (append_nil (40 ∷ (t ++ 41 ∷ [])) ∙ is)
-expression_of {d} (pointed p steps s t same w v is) =
-    let one : Written d (parens an_inner) (left p) (40 ∷ (s ++ 41 ∷ [])) = in_parens {n = an_inner} (first_of (mapped left w)) in
-    let all : Written d expression (Read (place_behind p steps)) ((40 ∷ (s ++ 41 ∷ [])) ++ t) = second_of (by_way {Y = BehindInner} {rest = behind_inner} (left p) steps one v) in
+
+pub pointed_written : {d : ℕ} {e : Expr} {text : List ℕ} (p : Expr) (steps : List Step) (s t : List ℕ) → Read (place_behind p steps) ≡ e → Written (suc d) pointer_rule p s → Written d (repeat step) steps t → (40 ∷ (s ++ 41 ∷ [])) ++ t ≡ text
+    → Written d in_parens e text
+pointed_written {d} p steps s t same w v is =
+    let one : Written d (parens an_inner) (left p) (40 ∷ (s ++ 41 ∷ [])) = within_parens {n = an_inner} (first_of (mapped left w)) in
+    let all : Written d in_parens (Read (place_behind p steps)) ((40 ∷ (s ++ 41 ∷ [])) ++ t) = by_way {Y = BehindInner} {rest = behind_inner} (left p) steps one v in
     as_value (as_text all is) same
+
+pub expression_of : {d : ℕ} {e : Expr} {text : List ℕ} → Form d e text → Written d expression e text
+unfolding expression
+expression_of (numbered w) = first_of (first_of w)
+expression_of (named_first x steps t same is w e) = first_of (operand_named x steps t same is w e)
+expression_of (enclosed t w is) = second_of (enclosed_written t w is)
+expression_of (pointed p steps s t same w v is) = second_of (pointed_written p steps s t same w v is)
 
 with_first : {d : ℕ} {a : Expr} {x : Tail} {s t : List ℕ} → Form d a s → Written d tail x t → Written d value_inside (with_tail a x) (s ++ t)
 unfolding value_inside
-with_first (plain w) v = second_of (second_of (first_of (in_sequence with_tail w v)))
+with_first (numbered w) v = second_of (second_of (first_of (in_sequence with_tail (first_of w) v)))
+with_first (named_first x steps t same is w e) v = second_of (second_of (first_of (in_sequence with_tail (operand_named x steps t same is w e) v)))
 with_first {d} {a} {x} {s} {t} (enclosed u w is) v =
-    let one : Written d (parens an_inside) (value_inside_it a) (40 ∷ (u ++ 41 ∷ [])) = in_parens {n = an_inside} (second_of (second_of (mapped value_inside_it w))) in
+    let one : Written d (parens an_inside) (value_inside_it a) (40 ∷ (u ++ 41 ∷ [])) = within_parens {n = an_inside} (second_of (second_of (mapped value_inside_it w))) in
     let all : Written d value_inside (with_tail a x) ((40 ∷ (u ++ 41 ∷ [])) ++ t) = second_of (second_of (second_of (by_way {Y = BehindInside} {rest = behind_inside} (value_inside_it a) x one v))) in
     as_text all (ap (λ z. z ++ t) is)
 with_first {d} {a} {x} {s} {t} (pointed p steps u z same w v is) y =
-    let one : Written d (parens an_inside) (pointer_inside p) (40 ∷ (u ++ 41 ∷ [])) = in_parens {n = an_inside} (second_of (first_of (mapped pointer_inside w))) in
+    let one : Written d (parens an_inside) (pointer_inside p) (40 ∷ (u ++ 41 ∷ [])) = within_parens {n = an_inside} (second_of (first_of (mapped pointer_inside w))) in
     let both : Written d (sequence pair (repeat step) tail) (steps, x) (z ++ t) = in_sequence pair v y in
     let all : Written d value_inside (with_tail (Read (place_behind p steps)) x) ((40 ∷ (u ++ 41 ∷ [])) ++ (z ++ t)) =
         second_of (second_of (second_of (by_way {Y = BehindInside} {last = 2} {way = inside_way} {f = inside_value} {rest = behind_inside} (pointer_inside p) (steps, x) one both))) in
@@ -90,7 +103,7 @@ with_first {d} {a} {x} {s} {t} (pointed p steps u z same w v is) y =
 cast_written : {d : ℕ} (t : CType) (e : Expr) (s : List ℕ) → ValueInSubset t → Written d expression e s → Written d value_inside (Cast t e) ((40 ∷ (type_text t ++ 41 ∷ [])) ++ s)
 unfolding value_inside
 cast_written {d} t e s is w =
-    let one : Written d (parens an_inside) (type_inside t) (40 ∷ (type_text t ++ 41 ∷ [])) = in_parens {n = an_inside} (first_of (mapped type_inside (value_type_written t is))) in
+    let one : Written d (parens an_inside) (type_inside t) (40 ∷ (type_text t ++ 41 ∷ [])) = within_parens {n = an_inside} (first_of (mapped type_inside (value_type_written t is))) in
     second_of (second_of (second_of (by_way {Y = BehindInside} {rest = behind_inside} (type_inside t) e one w)))
 
 unary_written : {d : ℕ} (op : CUnary) (e : Expr) (s : List ℕ) → Written d expression e s → Written d value_inside (Unary op e) (unary_text op ++ s)
@@ -135,14 +148,14 @@ one_step {text = text} s u (named x steps t same is v e) w =
 one_step {text = text} s u (behind p steps a t same is v e) w =
     behind p (steps ++ s ∷ []) a (t ++ (u ++ [])) (steps_snoc (At p) steps s ∙ ap (λ p. step_on p s) same) is (appended v (more w none)) (sym (append_assoc (40 ∷ (a ++ 41 ∷ [])) t (u ++ [])) ∙ ap (λ z. z ++ (u ++ [])) e ∙ ap (λ z. text ++ z) (append_nil u))
 
-place_of : {d : ℕ} {p : Place} {text : List ℕ} → PlaceForm d p text → Written d place p text
+pub place_of : {d : ℕ} {p : Place} {text : List ℕ} → PlaceForm d p text → Written d place p text
 place_of (named x steps t same is v e) = as_value (as_text (first_of (in_sequence named_place (name_written x is) v)) e) same
 place_of {d} (behind p steps s t same w v e) =
-    let one : Written d (parens a_pointer) p (40 ∷ (s ++ 41 ∷ [])) = in_parens {n = a_pointer} w in
+    let one : Written d (parens a_pointer) p (40 ∷ (s ++ 41 ∷ [])) = within_parens {n = a_pointer} w in
     as_value (as_text (second_of (in_sequence place_behind one v)) e) same
 
 read_of : {d : ℕ} {p : Place} {text : List ℕ} → PlaceForm d p text → Form d (Read p) text
-read_of (named x steps t same is v e) = plain (as_value (as_text (second_of (mapped Read (in_sequence named_place (name_written x is) v))) e) (ap Read same))
+read_of (named x steps t same is v e) = named_first x steps t (ap Read same) is v e
 read_of (behind p steps s t same w v e) = pointed p steps s t (ap Read same) w v e
 
 member_written : {d : ℕ} (m : Name) → IsIdentifier m → Written d step (m, None) (codes "." ++ m)
@@ -150,7 +163,7 @@ member_written m is = as_text (in_sequence pair (one_piece (Byte 46) refl then n
 
 element_written : {d : ℕ} (m : Name) (e : Expr) (s : List ℕ) → IsIdentifier m → Written (suc d) expression e s → Written d step (m, Some e) ((codes "." ++ m) ++ (91 ∷ (s ++ 93 ∷ [])))
 element_written {d} m e s is w =
-    let index : Written d (squares an_expression) e (91 ∷ (s ++ 93 ∷ [])) = in_squares {n = an_expression} w in
+    let index : Written d (squares an_expression) e (91 ∷ (s ++ 93 ∷ [])) = within_squares {n = an_expression} w in
     in_sequence pair (one_piece (Byte 46) refl then name_written m is) (first_of (mapped Some index))
 
 address_written : {d : ℕ} {text : List ℕ} (p : Place) → Written d place p text → Written d value_inside (Address p) (codes "&" ++ text)
@@ -166,7 +179,7 @@ element_form {d} {p} {text} m e s f is w = subst (PlaceForm d (Element (Member p
 
 mutual
   pub form_of : (e : Expr) → ExprInSubset e → (d : ℕ) → Form d e (expr_text e)
-  form_of (Number v suffix) is d = plain (first_of (mapped number_expr (one_piece (Word (decimal v ++ suffix_text suffix)) (number_piece d v suffix is))))
+  form_of (Number v suffix) is d = numbered (mapped number_expr (one_piece (Word (decimal v ++ suffix_text suffix)) (number_piece d v suffix is)))
   form_of (Read place) is d = read_of (place_form place is d)
   form_of (Address place) is d = enclosed (codes "&" ++ place_text place) (address_written place (place_of (place_form place is (suc d)))) refl
   form_of (Unary op e) is d = enclosed (unary_text op ++ expr_text e) (unary_written op e (expr_text e) (expression_of (form_of e is (suc d)))) (simp append_assoc refl)
@@ -185,3 +198,6 @@ mutual
   place_form (Element (At p) e) is d = absurd is.0
   place_form (Element (Member p m) e) is d = element_form m e (expr_text e) (place_form p is.1.0 d) is.1.1 (expression_of (form_of e is.2 (suc d)))
   place_form (Element (Element p i) e) is d = absurd is.0
+
+pub expression_written : (e : Expr) → ExprInSubset e → (d : ℕ) → Written d expression e (expr_text e)
+expression_written e is d = expression_of (form_of e is d)

@@ -51,7 +51,7 @@ module _ {d : ℕ} where
 
   -- ---- names that hold values
 
-  const_name_written : (x : Name) → IsIdentifier x → Written d const_name x (codes "const " ++ x)
+  pub const_name_written : (x : Name) → IsIdentifier x → Written d const_name x (codes "const " ++ x)
   const_name_written x is = as_text (a_const then (a_blank then name_written x is)) refl
 
   pub held_pointer_written : (constant : Bool) (x : Name) → IsIdentifier x → (base : List ℕ) → (t : List ℕ) × Written d held_pointer (constant, x) t × (base ++ (codes " " ++ t) ≡ base ++ star_text constant ++ codes "const " ++ x)

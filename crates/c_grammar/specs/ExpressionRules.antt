@@ -169,8 +169,21 @@ abbrev pub inits_of : List Init → Inits
 inits_of [] = NoInits
 inits_of (i ∷ is) = MoreInits i (inits_of is)
 
+-- the number 0 without a suffix, alone
+abbrev pub is_zero_number : ℕ → Suffix → Bool
+is_zero_number zero Plain = true
+is_zero_number _ _ = false
+
+abbrev pub is_zero_expr : Expr → Bool
+is_zero_expr (Number n suffix) = is_zero_number n suffix
+is_zero_expr _ = false
+
+abbrev pub is_zero_init : Init → Bool
+is_zero_init (One e) = is_zero_expr e
+is_zero_init _ = false
+
 abbrev pub is_zero : List Init → Bool
-is_zero (One (Number zero Plain) ∷ []) = true
+is_zero (i ∷ []) = is_zero_init i
 is_zero _ = false
 
 -- `{0}` has a form of its own

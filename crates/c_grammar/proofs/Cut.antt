@@ -100,10 +100,7 @@ piece_cut (Blanks zero) t ps whole e f = cc
 piece_cut (Blanks (suc n)) t ps whole e f = blanks_cut n t ps e f
 piece_cut (Byte b) t ps whole e f = let is = whole_byte b whole in byte_cut b (pieces t) is.0 is.1 ∙ ap (λ x. Byte b ∷ x) e
 
-cut_from : (m : Entry Piece) (row : Row Piece) → is_whole m.token ≡ true → SideBySide Apart (m ∷ row) → pieces (joined (tokens (m ∷ row))) ≡ tokens (m ∷ row)
+-- pieces that are apart, of which the first is whole, are cut again as they were
+pub cut_from : (m : Entry Piece) (row : Row Piece) → is_whole m.token ≡ true → SideBySide Apart (m ∷ row) → pieces (joined (tokens (m ∷ row))) ≡ tokens (m ∷ row)
 cut_from m [] whole s = piece_cut m.token [] [] whole refl tt
 cut_from m (n ∷ row) whole (here, s) = piece_cut m.token (joined (tokens (n ∷ row))) (tokens (n ∷ row)) whole (cut_from n row here.two s) here.stops
-
--- pieces that are apart are cut again as they were
-pub joined_cut : (m n : Entry Piece) (row : Row Piece) → SideBySide Apart (m ∷ n ∷ row) → pieces (joined (tokens (m ∷ n ∷ row))) ≡ tokens (m ∷ n ∷ row)
-joined_cut m n row s = cut_from m (n ∷ row) s.0.one s

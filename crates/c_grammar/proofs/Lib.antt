@@ -8,3 +8,4 @@ pub mod WrittenExpressions
 pub mod WrittenLists
 pub mod WrittenStatements
 pub mod WrittenUnits
+pub mod Texts

@@ -1,4 +1,4 @@
-ghost use Rattle.c_grammar.specs.Laws.{PiecesAreTheText, PiecesSpellOneUnit, UnitsAreReadExactly};
+ghost use Rattle.c_grammar.specs.Laws.{PiecesAreTheText, PiecesSpellOneUnit, TextsAreSpelled, TextsTellUnitsApart, UnitsAreReadExactly};
 
 /// The pieces of a text, joined, are that text.
 pub fn pieces_are_the_text()
@@ -13,4 +13,14 @@ pub fn units_are_read_exactly()
 /// No pieces spell two units, however deep they nest.
 pub fn pieces_spell_one_unit()
     ensures { PiecesSpellOneUnit }
+{}
+
+/// The text of a unit, cut into pieces, spells that unit.
+pub fn texts_are_spelled()
+    ensures { TextsAreSpelled }
+{}
+
+/// The bytes that spell a unit spell no other.
+pub fn texts_tell_units_apart()
+    ensures { TextsTellUnitsApart }
 {}

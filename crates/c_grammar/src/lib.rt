@@ -3,4 +3,7 @@
 
 mod laws;
 
-pub use laws::{pieces_are_the_text, pieces_spell_one_unit, units_are_read_exactly};
+pub use laws::{
+    pieces_are_the_text, pieces_spell_one_unit, texts_are_spelled, texts_tell_units_apart,
+    units_are_read_exactly,
+};

@@ -9,3 +9,5 @@ pub mod WrittenLists
 pub mod WrittenStatements
 pub mod WrittenUnits
 pub mod Texts
+pub mod Says
+pub mod SaysTypes

@@ -130,7 +130,7 @@ defined_written f is =
 
 -- ---- a result and its function
 
-abbrev shown : Option Bool → Name → List ℕ
+abbrev pub shown : Option Bool → Name → List ℕ
 shown None x = x
 shown (Some false) x = codes "*" ++ x
 shown (Some true) x = codes "const *" ++ x

@@ -15,10 +15,10 @@ pub fn a_text_has_one_tree()
     ensures { ATextHasOneTree }
 {}
 
-/// A name, a number and a list; a name behind a number; two lists one in the other, where one level and where two may nest; a
+/// A name, two numbers and a list; a name behind a number; two lists one in the other, where one level and where two may nest; a
 /// comma that is missing, and a text that ends early.
 pub fn small_texts_are_parsed_so()
-    ensures stages { parse 1 (Name 7 ∷ Number 8 ∷ OpenBracket ∷ Name 9 ∷ CloseBracket ∷ []) ≡ Tree (Named 7 ∷ Counted 8 ∷ Listed (Pair (Named 9) Nothing) ∷ []) }
+    ensures stages { parse 1 (Name 7 ∷ Number 8 ∷ Number 6 ∷ OpenBracket ∷ Name 9 ∷ CloseBracket ∷ []) ≡ Tree (Named 7 ∷ Counted 8 ∷ Counted 6 ∷ Listed (Pair (Named 9) Nothing) ∷ []) }
     ensures name_behind_number { parse 1 (Name 7 ∷ Number 8 ∷ Name 9 ∷ []) ≡ UnexpectedToken 2 }
     ensures one_level { parse 1 (OpenBracket ∷ OpenBracket ∷ CloseBracket ∷ CloseBracket ∷ []) ≡ DeepToken 1 }
     ensures two_levels { parse 2 (OpenBracket ∷ OpenBracket ∷ CloseBracket ∷ CloseBracket ∷ []) ≡ Tree (Listed (Pair (Listed Nothing) Nothing) ∷ []) }

@@ -11,3 +11,5 @@ pub mod WrittenUnits
 pub mod Texts
 pub mod Says
 pub mod SaysTypes
+pub mod Meanings
+pub mod SaysExpressions

@@ -34,7 +34,7 @@ all_used : AllWordy 1 keywords_used
 unfolding AllWordy
 all_used = (refl, (refl, (refl, (refl, (refl, (refl, (refl, (refl, (refl, (refl, tt))))))))))
 
-wordy : (w : List ℕ) → is_wordy (word_kind w) ≡ true
+pub wordy : (w : List ℕ) → is_wordy (word_kind w) ≡ true
 wordy w =
     let P : ℕ → Type 0 = λ k. is_wordy k ≡ true in
     let used : P (place_in 1 keywords_used w) = place_wordy w 1 keywords_used all_used in
@@ -43,7 +43,7 @@ wordy w =
     one_of P (begins_as_identifier w) (if is_name w then name_word else (if is_some (word_scalar w) then scalar_word else place_in 1 keywords_used w)) (if is_some (word_number w) then number_word else other)
     letters (one_of P (is_some (word_number w)) number_word other refl refl)
 
-blanky : (d n : ℕ) → is_blanky (blanks_kind d n) ≡ true
+pub blanky : (d n : ℕ) → is_blanky (blanks_kind d n) ≡ true
 blanky d n =
     let P : ℕ → Type 0 = λ k. is_blanky k ≡ true in
     one_of P (nat_eq n 1) one_blank (if nat_eq n (line_blanks d) then indentation else (if nat_eq n (closing_blanks d) then outdentation else other)) refl

@@ -51,14 +51,14 @@ abbrev pub text_if : {A : Type 0} → (A → List ℕ) → Option A → List ℕ
 text_if s None = []
 text_if s (Some a) = s a
 
+-- each value is one of these, and has this text
+pub record Is {A : Type 0} (I : A → Type 0) (text : A → List ℕ) (a : A) (t : List ℕ) : Type 0 where
+  pub good : I a
+  pub is : t ≡ text a
+
 module _ (d : ℕ) (L : (n : Symbol) → Language Piece (Tree n)) where
   pub record Means {A : Type 0} (r : Rule A) (Q : A → List ℕ → Type 0) : Type 0 where
     pub means : (a : A) (row : Row Piece) → SpellsWith lexicon d L r a row → Q a (joined (tokens row))
-
-  -- each value is one of these, and has this text
-  pub record Is {A : Type 0} (I : A → Type 0) (text : A → List ℕ) (a : A) (t : List ℕ) : Type 0 where
-    pub good : I a
-    pub is : t ≡ text a
 
   abbrev pub Says : {A : Type 0} → Rule A → (A → Type 0) → (A → List ℕ) → Type 0
   Says r I text = Means r (Is I text)
@@ -132,7 +132,7 @@ module _ {d : ℕ} {L : (n : Symbol) → Language Piece (Tree n)} where
   pub s_optional : {A : Type 0} {p : Rule A} {I : A → Type 0} {s : A → List ℕ} → Says d L p I s → Says d L (optional p) (IfThere I) (text_if s)
   s_optional w = m_choice (s_map Some w (λ a i. (i, refl))) (m_empty record { good = tt; is = refl })
 
-  many_says : {A : Type 0} {p : Rule A} {I : A → Type 0} {s : A → List ℕ} → Says d L p I s → (xs : List A) (row : Row Piece) → Many (SpellsWith lexicon d L p) xs row → Is d L (All I) (λ xs. texts (map s xs)) xs (joined (tokens row))
+  many_says : {A : Type 0} {p : Rule A} {I : A → Type 0} {s : A → List ℕ} → Says d L p I s → (xs : List A) (row : Row Piece) → Many (SpellsWith lexicon d L p) xs row → Is (All I) (λ xs. texts (map s xs)) xs (joined (tokens row))
   many_says {I = I} w [] row e = record { good = All-nil I; is = ap (λ r. joined (tokens r)) e }
   many_says {I = I} {s = s} w (x ∷ xs) row (u, v, e, a, b) =
       let i = w.means x u a in

@@ -13,3 +13,5 @@ pub mod Says
 pub mod SaysTypes
 pub mod Meanings
 pub mod SaysExpressions
+pub mod SaysLists
+pub mod SaysStatements

@@ -52,11 +52,11 @@ arguments_written es all = within_parens {n = arguments} (arguments_in es all)
 
 -- ---- initializers
 
-abbrev list_of : Inits → List Init
+abbrev pub list_of : Inits → List Init
 list_of NoInits = []
 list_of (MoreInits i is) = i ∷ list_of is
 
-inits_back : (is : Inits) → inits_of (list_of is) ≡ is
+pub inits_back : (is : Inits) → inits_of (list_of is) ≡ is
 inits_back NoInits = refl
 inits_back (MoreInits i is) = ap (MoreInits i) (inits_back is)
 
@@ -79,7 +79,7 @@ zero_expr (Binary op a b) e = cc
 zero_expr (Cast t a) e = cc
 zero_expr (Cond c a b) e = cc
 
-zero_init : (i : Init) → is_zero_init i ≡ true → i ≡ One (Number 0 Plain)
+pub zero_init : (i : Init) → is_zero_init i ≡ true → i ≡ One (Number 0 Plain)
 zero_init (One e) is = ap One (zero_expr e is)
 zero_init Zero is = cc
 zero_init (Many is) e = cc

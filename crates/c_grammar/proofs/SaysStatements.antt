@@ -18,7 +18,7 @@ use Rattle.c_text.specs.TypeText.{line, listed, texts, scalar_text, base_text, c
 use Rattle.c_text.specs.ExpressionText.{expr_text, place_text, init_text, call_text}
 use Rattle.c_text.specs.StatementText.{indent, first_value_text, return_text, block_text, stmt_text, stmts_text}
 use Rattle.c_text.specs.Subset.{BaseInSubset, ValueInSubset, ExprInSubset, PlaceInSubset, InitInSubset, CallInSubset, FirstValueInSubset, ReturnInSubset, StmtInSubset, StmtsInSubset}
-use Rattle.grammars.specs.Grammar.{of_kind, token, map, choice, repeat, after, optional}
+use Rattle.grammars.specs.Grammar.{of_kind, token, map, sequence, choice, repeat, after, before, optional}
 use Rattle.grammars.proofs.Sets.{kind_is}
 use Rattle.c_grammar.specs.Pieces.{Piece, Word, Blanks, Byte, piece_text, joined}
 use Rattle.c_grammar.specs.Kinds.{lexicon, kind, kind_of, is_whole, word_kind, blanks_kind, line_blanks, closing_blanks, one_blank, indentation, outdentation, other, is_wordy}
@@ -243,3 +243,82 @@ module _ (d : ℕ) (L : (n : Symbol) → Language Piece (Tree n)) (inner : (n : 
       (m_choice (says_declaration b)
       (m_choice (m_sequence named_statement says_name says_named (λ x y t u i j. named_says b x y (t ++ u) i.good j.good (ap (λ z. z ++ u) i.is ∙ ap (λ z. x ++ z) j.is)))
       (m_sequence pointed_statement (says_pointer_parens d L inner) says_assigned (λ p a t u i j. pointed_says b p a (t ++ u) i.good j.good (ap (λ z. z ++ u) i.is ∙ ap (λ z. (40 ∷ ((codes "*" ++ expr_text p) ++ 41 ∷ [])) ++ z) j.is))))))
+
+-- ---- blocks and lines
+
+stmts_say : (b : ℕ) (xs : List Stmt) → All StmtInSubset xs → StmtsInSubset (stmts_of xs) × (texts (list.map (stmt_text b) xs) ≡ stmts_text b (stmts_of xs))
+stmts_say b [] all = (tt, refl)
+stmts_say b (s ∷ xs) all = let k = stmts_say b xs (All-tail StmtInSubset s xs all) in ((All-head StmtInSubset s xs all, k.0), ap (λ z. stmt_text b s ++ z) k.1)
+
+abbrev block_is : ℕ → Stmts → List ℕ
+block_is b ss = block_text (suc b) (stmts_text (suc b + 1) ss)
+
+-- the text of a block, from what stands between its braces
+between_braces : (b : ℕ) (ss : Stmts) (t : List ℕ) → t ≡ (codes "\n" ++ stmts_text (suc (suc b)) ss) ++ indent (suc b) → 123 ∷ (t ++ 125 ∷ []) ≡ block_is b ss
+between_braces b ss t e =
+    let same : suc (suc b) ≡ suc b + 1 = omega arith in
+    ap (λ z. 123 ∷ (z ++ 125 ∷ [])) e ∙ plain (stmts_text (suc (suc b)) ss) (indent (suc b)) ∙ ap (λ n. block_text (suc b) (stmts_text n ss)) same
+  where
+    plain : (t u : List ℕ) → 123 ∷ (((codes "\n" ++ t) ++ u) ++ 125 ∷ []) ≡ line (codes "{") ++ t ++ u ++ codes "}"
+    plain t u = simp append_assoc refl
+
+abbrev branches_text : ℕ → Stmts × Option Stmts → List ℕ
+branches_text b (a, o) = block_is b a ++ text_if (λ c. codes " else " ++ block_is b c) o
+
+abbrev condition_text : Expr → List ℕ
+condition_text e = codes "if " ++ (40 ∷ (expr_text e ++ 41 ∷ []))
+
+if_says : (b : ℕ) (e : Expr) (y : Stmts × Option Stmts) (t : List ℕ) → ExprInSubset e → StmtsInSubset y.0 × IfThere StmtsInSubset y.1 → t ≡ condition_text e ++ (codes " " ++ branches_text b y) → StatementIs b (if_with e y) t
+if_says b e (a, None) t i j same = record { good = (i, j.0); is = ap (λ z. indent (suc b) ++ (z ++ codes "\n")) same ∙ plain (indent (suc b)) (expr_text e) (block_is b a) }
+  where
+    plain : (i e t : List ℕ) → i ++ (((codes "if " ++ (40 ∷ (e ++ 41 ∷ []))) ++ (codes " " ++ (t ++ []))) ++ codes "\n") ≡ i ++ codes "if (" ++ e ++ codes ") " ++ line t
+    plain i e t = ap (λ z. i ++ (((codes "if " ++ (40 ∷ (e ++ 41 ∷ []))) ++ (codes " " ++ z)) ++ codes "\n")) (append_nil t) ∙ simp append_assoc refl
+if_says b e (a, Some c) t i j same = record { good = (i, j.0, j.1); is = ap (λ z. indent (suc b) ++ (z ++ codes "\n")) same ∙ plain (indent (suc b)) (expr_text e) (block_is b a) (block_is b c) }
+  where
+    plain : (i e s t : List ℕ) → i ++ (((codes "if " ++ (40 ∷ (e ++ 41 ∷ []))) ++ (codes " " ++ (s ++ (codes " else " ++ t)))) ++ codes "\n") ≡ i ++ codes "if (" ++ e ++ codes ") " ++ s ++ codes " else " ++ line t
+    plain i e s t = simp append_assoc refl
+
+for_says : (b : ℕ) (ss : Stmts) (t : List ℕ) → StmtsInSubset ss → t ≡ codes "for (;;) " ++ block_is b ss → StatementIs b (Forever ss) t
+for_says b ss t i same = record { good = i; is = ap (λ z. indent (suc b) ++ (z ++ codes "\n")) same ∙ plain (indent (suc b)) (block_is b ss) }
+  where
+    plain : (i t : List ℕ) → i ++ ((codes "for (;;) " ++ t) ++ codes "\n") ≡ i ++ codes "for (;;) " ++ line t
+    plain i t = simp append_assoc refl
+
+-- in so many braces
+module _ (b : ℕ) (L : (n : Symbol) → Language Piece (Tree n)) (inner : (n : Symbol) (x : Tree n) (row : Row Piece) → L n x row → Meaning n (suc (suc b)) x (joined (tokens row))) where
+  says_block : Says (suc b) L block StmtsInSubset (block_is b)
+  says_block = m_braces (suc b) L inner a_block (Is StmtsInSubset (block_is b)) (λ ss t i. record { good = i.good; is = between_braces b ss t i.is })
+
+  says_condition : Says (suc b) L condition ExprInSubset condition_text
+  says_condition =
+      let one : Says (suc b) L (parens an_expression) ExprInSubset (λ e. 40 ∷ (expr_text e ++ 41 ∷ [])) = m_parens (suc b) L inner an_expression (Is ExprInSubset (λ e. 40 ∷ (expr_text e ++ 41 ∷ []))) (λ e t i. record { good = i.good; is = ap (λ z. 40 ∷ (z ++ 41 ∷ [])) i.is }) in
+      s_after s_fixed (s_after s_fixed one)
+
+  says_otherwise : Says (suc b) L otherwise (IfThere StmtsInSubset) (text_if (λ c. codes " else " ++ block_is b c))
+  says_otherwise = s_optional (s_after s_fixed (s_after s_fixed (s_after s_fixed says_block)))
+
+  says_statement : Means (suc b) L statement (StatementIs b)
+  unfolding statement
+  says_statement =
+      let ever : Says (suc b) L (parens forever) (λ _. Unit {0}) (λ _. codes "(;;)") = m_parens (suc b) L inner forever (Is (λ _. Unit {0}) (λ _. codes "(;;)")) (λ p t i. record { good = tt; is = ap (λ z. 40 ∷ (z ++ 41 ∷ [])) i }) in
+      let branches : Says (suc b) L (sequence pair block otherwise) (λ y. StmtsInSubset y.0 × IfThere StmtsInSubset y.1) (branches_text b) = s_pair says_block says_otherwise in
+      m_choice (m_sequence if_with says_condition (s_after s_fixed branches) (λ e y t u i j. if_says b e y (t ++ u) i.good j.good (ap (λ z. z ++ u) i.is ∙ ap (λ z. condition_text e ++ z) j.is)))
+      (m_choice (m_map Forever (m_as (s_after s_fixed (s_after s_fixed (s_after ever (s_after s_fixed says_block)))) (λ ss t i. for_says b ss t i.good i.is)))
+      (m_choice (m_map Block (m_as says_block (λ ss t i. record { good = i.good; is = ap (λ z. indent (suc b) ++ (z ++ codes "\n")) i.is })))
+      (m_sequence {P = SimpleIs b} {R = Is (λ _. Unit {0}) (λ _. codes ";")} (λ s _. s) (says_simple (suc b) L inner b) s_fixed (λ s p t u i j. record { good = i.good; is = ap (λ z. indent (suc b) ++ ((t ++ z) ++ codes "\n")) j.is ∙ i.is }))))
+
+  says_statement_line : Says (suc b) L statement_line StmtInSubset (stmt_text (suc b))
+  says_statement_line =
+      let first : Says (suc b) L (token {A = Piece} indentation Some) (λ _. Unit {0}) (λ _. indent (suc b)) = m_token (λ p v e. record { good = tt; is = indent_is b p v e }) in
+      let rest : Means (suc b) L (before statement new_line) (λ s t. StmtInSubset s × (indent (suc b) ++ t ≡ stmt_text (suc b) s)) =
+          m_sequence {P = StatementIs b} {R = Is (λ _. Unit {0}) (λ _. codes "\n")} (λ s _. s) says_statement s_fixed (λ s p t u i j. (i.good, ap (λ z. indent (suc b) ++ (t ++ z)) j.is ∙ i.is)) in
+      m_sequence (λ _ s. s) first rest (λ p s t u i j. record { good = j.0; is = ap (λ z. z ++ u) i.is ∙ j.1 })
+
+  pub says_lines : Says (suc b) L lines StmtsInSubset (λ ss. codes "\n" ++ stmts_text (suc b) ss)
+  says_lines = s_after s_fixed (s_map stmts_of (s_repeat says_statement_line) (λ xs all. stmts_say (suc b) xs all))
+
+-- a block of a statement, whose closing brace stands in one brace less
+pub says_block_rule : (b : ℕ) (L : (n : Symbol) → Language Piece (Tree n)) → ((n : Symbol) (x : Tree n) (row : Row Piece) → L n x row → Meaning n (suc (suc (suc b))) x (joined (tokens row))) → Means (suc (suc b)) L block_rule (Meaning a_block (suc (suc b)))
+says_block_rule b L inner =
+    let last : Says (suc (suc b)) L (token {A = Piece} outdentation Some) (λ _. Unit {0}) (λ _. indent (suc b)) = m_token (λ p v e. record { good = tt; is = outdent_is b p v e }) in
+    s_before (says_lines (suc b) L inner) last

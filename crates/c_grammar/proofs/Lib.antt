@@ -15,3 +15,4 @@ pub mod Meanings
 pub mod SaysExpressions
 pub mod SaysLists
 pub mod SaysStatements
+pub mod SaysUnits

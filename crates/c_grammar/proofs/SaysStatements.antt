@@ -194,7 +194,7 @@ blanks_of d k p words bytes none e = at p (is_whole p) refl e
     at p true is e = whole_at p (e ∙ ap (λ w. if w then kind_of d p else other) is)
     at p false is e = absurd (eqb-false other k none (sym (e ∙ ap (λ w. if w then kind_of d p else other) is)))
 
-indent_is : (b : ℕ) (p v : Piece) → of_kind lexicon (suc b) indentation Some p ≡ Some v → piece_text p ≡ indent (suc b)
+pub indent_is : (b : ℕ) (p v : Piece) → of_kind lexicon (suc b) indentation Some p ≡ Some v → piece_text p ≡ indent (suc b)
 indent_is b p v e =
     let k = blanks_of (suc b) indentation p refl (omega arith) refl (eqb-true indentation (kind (suc b) p) (kind_is (nat_eq indentation (kind (suc b) p)) (Some p) v e)) in
     let same : k.0 ≡ 2 * suc b = indent_at (suc b) k.0 k.2 ∙ omega arith in

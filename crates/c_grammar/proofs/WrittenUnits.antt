@@ -114,7 +114,7 @@ params_written {d} (p ∷ ps) all =
     as_text (within_parens {n = the_params} inner) refl
 
 -- all that stands behind the name of a function
-abbrev rest_text : Function → List ℕ
+abbrev pub rest_text : Function → List ℕ
 rest_text f = params_text (map param_text f.params) ++ (codes " " ++ line (block_text 0 (stmts_text 1 f.body)))
 
 defined_written : (f : Function) → FunctionInSubset f → Written 0 defined (f.params, f.body) (rest_text f)
@@ -135,12 +135,12 @@ shown None x = x
 shown (Some false) x = codes "*" ++ x
 shown (Some true) x = codes "const *" ++ x
 
-scalar_typed : (s : CScalar) (p : Option Bool) (x : Name) → scalar_text s ++ (codes " " ++ shown p x) ≡ typed_text (scalar_type s p) x
+pub scalar_typed : (s : CScalar) (p : Option Bool) (x : Name) → scalar_text s ++ (codes " " ++ shown p x) ≡ typed_text (scalar_type s p) x
 scalar_typed s None x = simp append_assoc refl
 scalar_typed s (Some false) x = simp append_assoc refl
 scalar_typed s (Some true) x = simp append_assoc refl
 
-struct_typed : (t : Name) (constant : Bool) (x : Name) → (codes "struct " ++ t) ++ (codes " " ++ shown (Some constant) x) ≡ typed_text (struct_pointer t constant) x
+pub struct_typed : (t : Name) (constant : Bool) (x : Name) → (codes "struct " ++ t) ++ (codes " " ++ shown (Some constant) x) ≡ typed_text (struct_pointer t constant) x
 struct_typed t false x = simp append_assoc refl
 struct_typed t true x = simp append_assoc refl
 
@@ -152,7 +152,7 @@ typed_name_written : {d : ℕ} (p : Option Bool) (x : Name) → IsIdentifier x �
 typed_name_written None x is = second_of (mapped no_pointer (name_written x is))
 typed_name_written (Some constant) x is = first_of (mapped some_name_pointer (pointer_name_written constant x is))
 
-regroup : (a b c e : List ℕ) → a ++ (b ++ (c ++ e)) ≡ (a ++ (b ++ c)) ++ e
+pub regroup : (a b c e : List ℕ) → a ++ (b ++ (c ++ e)) ≡ (a ++ (b ++ c)) ++ e
 regroup a b c e = simp append_assoc refl
 
 -- ---- functions, wherever they stand

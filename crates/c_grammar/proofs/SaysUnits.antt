@@ -34,7 +34,7 @@ use Rattle.c_grammar.proofs.SaysExpressions.{m_parens, m_squares, m_braces}
 use Rattle.c_grammar.proofs.SaysLists.{m_separated, says_initializer}
 use Rattle.c_grammar.proofs.SaysStatements.{says_equals, indent_is}
 use Rattle.c_grammar.proofs.WrittenStatements.{scalar_const_text, struct_const_text, held_text}
-use Rattle.c_grammar.proofs.WrittenUnits.{shown, scalar_typed, struct_typed, regroup, rest_text}
+use Rattle.c_grammar.proofs.WrittenUnits.{shown, scalar_typed, struct_typed, regroup, rest_text, extern_typed}
 
 end_says : {d : ℕ} {L : (n : Symbol) → Language Piece (Tree n)} → Says d L (after semicolon new_line) (λ _. Unit {0}) (λ _. codes ";\n")
 end_says = s_after s_fixed s_fixed
@@ -200,6 +200,28 @@ struct_item_is : (t : Name) (y : Behind Bool) (u : List ℕ) → IsIdentifier t 
 struct_item_is t (left h) u tag i e = static_function (struct_pointer t h.0.0) h.0.1 h.1 u tag i.0 i.1 (e ∙ struct_core t h.0.0 h.0.1 h.1)
 struct_item_is t (right o) u tag i e = static_object (Struct t) o u tag i e
 
+-- behind `struct NAME `: the members, or a function
+abbrev TaggedIn : Side (List CMember) ((Bool × Name) × Defined) → Type 0
+TaggedIn (left ms) = SomeMembers ms
+TaggedIn (right f) = IsIdentifier f.0.1 × DefinedIn f.1
+
+abbrev tagged_text : Side (List CMember) ((Bool × Name) × Defined) → List ℕ
+tagged_text (left ms) = (123 ∷ ((codes "\n" ++ texts (map member_text ms)) ++ 125 ∷ [])) ++ codes ";\n"
+tagged_text (right f) = shown (Some f.0.0) f.0.1 ++ defined_text f.1
+
+struct_lines : (x t : List ℕ) → (codes "struct " ++ x) ++ (codes " " ++ ((123 ∷ ((codes "\n" ++ t) ++ 125 ∷ [])) ++ codes ";\n")) ≡ line (codes "struct " ++ x ++ codes " {") ++ t ++ line (codes "};")
+struct_lines x t = simp append_assoc refl
+
+tagged_is : (t : Name) (y : Side (List CMember) ((Bool × Name) × Defined)) (u : List ℕ) → IsIdentifier t → TaggedIn y → u ≡ (codes "struct " ++ t) ++ (codes " " ++ tagged_text y) → ItemIs 0 (tagged t y) u
+tagged_is t (left ms) u tag i e = record { good = record { name = tag; some = i.some; members = i.members }; is = e ∙ struct_lines t (texts (map member_text ms)); late = omega arith }
+tagged_is t (right f) u tag i e = record { good = record { name = i.0; params = i.1.0; result = tag; body = i.1.1 }; is = e ∙ struct_core t f.0.0 f.0.1 f.1 ∙ core_is (struct_function false t f); late = omega arith }
+
+abbrev hidden_text : Item → List ℕ
+hidden_text (a_function f) = core_text f
+hidden_text (a_struct s) = []
+hidden_text (an_extern x) = []
+hidden_text (an_object o) = []
+
 abbrev StaticIsFrom : Item → List ℕ → Type 0
 StaticIsFrom x t = ItemIn x × (codes "static" ++ t ≡ item_text x) × (2 ≤ rank x)
 
@@ -272,3 +294,46 @@ module _ (L : (n : Symbol) → Language Piece (Tree n)) (inner : (n : Symbol) (x
       let three : Means 0 L (sequence struct_item tag (after blank behind_struct)) StaticIs = m_sequence struct_item says_tag (s_after s_fixed says_behind_struct) (λ x y t u i j. struct_item_is x y (t ++ u) i.good j.good (ap (λ z. z ++ u) i.is ∙ ap (λ z. (codes "struct " ++ x) ++ z) j.is)) in
       m_sequence {R = λ x t. StaticIsFrom x t} (λ _ x. x) s_fixed (m_sequence {P = Is (λ _. Unit {0}) (λ _. codes " ")} {R = StaticIs} (λ _ x. x) s_fixed (m_choice one (m_choice two three)) (λ p x t u i j. (j.good, ap (λ z. codes "static" ++ (z ++ u)) i.is ∙ j.is, j.late)))
       (λ p x t u i j. record { good = j.0; is = ap (λ z. z ++ u) i.is ∙ j.1; late = omega (arith, low, j.2) })
+
+  -- ---- the other items
+
+  says_extern : Says 0 L extern ExternInSubset extern_text
+  says_extern =
+      let types : Says 0 L (parens the_types) (All ValueInSubset) (λ ts. params_text (map type_text ts)) = m_parens 0 L inner the_types (Is (All ValueInSubset) (λ ts. params_text (map type_text ts))) (λ ts t i. record { good = i.good; is = i.is }) in
+      let head : Says 0 L extern_result ExternResultInSubset type_text = m_choice (s_map (λ _. Void) s_fixed (λ p i. (tt, refl))) (s_map Value says_scalar (λ s i. (tt, refl))) in
+      let core : Says 0 L (sequence extern_of extern_result (after blank (sequence pair name (before (parens the_types) (after semicolon new_line))))) ExternInSubset
+          (λ x. type_text x.result ++ (codes " " ++ (x.name ++ (params_text (map type_text x.params) ++ codes ";\n")))) =
+          s_sequence extern_of head (s_after s_fixed (s_pair says_name (s_before types end_says))) (λ t y i j. (record { name = j.0; params = j.1; result = i }, refl)) in
+      s_as (s_after s_fixed (s_after s_fixed core)) (λ x i. (i, plain (type_text x.result) x.name (params_text (map type_text x.params)) ∙ ap (λ z. line (codes "extern " ++ z ++ params_text (map type_text x.params) ++ codes ";")) (extern_typed x.result i.result x.name)))
+    where
+      plain : (t x p : List ℕ) → codes "extern" ++ (codes " " ++ (t ++ (codes " " ++ (x ++ (p ++ codes ";\n"))))) ≡ line (codes "extern " ++ (t ++ codes " " ++ x) ++ p ++ codes ";")
+      plain t x p = simp append_assoc refl
+
+  says_struct_or_function : Means 0 L struct_or_function (ItemIs 0)
+  unfolding HiddenIs
+  says_struct_or_function =
+      let members : Says 0 L (braces the_members) SomeMembers (λ ms. 123 ∷ ((codes "\n" ++ texts (map member_text ms)) ++ 125 ∷ [])) =
+          m_braces 0 L inner the_members (Is SomeMembers (λ ms. 123 ∷ ((codes "\n" ++ texts (map member_text ms)) ++ 125 ∷ []))) (λ ms t i. record { good = i.good; is = ap (λ z. 123 ∷ (z ++ 125 ∷ [])) i.is }) in
+      let next : Says 0 L (choice (rules.map left (before (braces the_members) (after semicolon new_line))) (rules.map right (sequence pair pointer_name defined))) TaggedIn tagged_text =
+          m_choice (s_map left (s_before members end_says) (λ ms i. (i, refl))) (s_map right (s_pair says_pointer_name says_defined) (λ f i. (i, refl))) in
+      m_sequence tagged says_tag (s_after s_fixed next) (λ t y u v i j. tagged_is t y (u ++ v) i.good j.good (ap (λ z. z ++ v) i.is ∙ ap (λ z. (codes "struct " ++ t) ++ z) j.is))
+
+  says_hidden_function : (s : ℕ) → s ≤ 3 → Means 0 L hidden_function (ItemIs s)
+  unfolding HiddenIs
+  says_hidden_function s low =
+      m_as (s_after s_fixed (s_after s_fixed (s_map {J = λ x. ItemIn x × (s ≤ rank x) × (codes "static" ++ (codes " " ++ hidden_text x) ≡ item_text x)} {t = hidden_text} a_function (says_function true)
+      (λ f i. ((i.0, low, ap (λ h. storage_text h ++ core_text f) (sym i.1) ∙ core_is f), refl))))) (λ x t i. record { good = i.good.0; is = i.is ∙ i.good.2; late = i.good.1 })
+
+  open_function : (s : ℕ) → s ≤ 3 → {r : Rule Function} → Says 0 L r (HiddenIs false) core_text → Means 0 L (rules.map a_function r) (ItemIs s)
+  unfolding HiddenIs
+  open_function s low w = m_map a_function (m_as w (λ f t i. record { good = i.good.0; is = i.is ∙ ap (λ h. storage_text h ++ core_text f) (sym i.good.1) ∙ core_is f; late = low }))
+
+  extern_item : (s : ℕ) → s ≤ 1 → Means 0 L (rules.map an_extern extern) (ItemIs s)
+  extern_item s low = m_map an_extern (m_as says_extern (λ x t i. record { good = i.good; is = i.is; late = low }))
+
+  pub says_at_stage : (s : ℕ) → s ≤ 3 → Means 0 L (at_stage s) (ItemIs s)
+  unfolding at_stage
+  says_at_stage zero low = m_choice says_struct_or_function (m_choice (extern_item 0 (omega arith)) (m_choice (says_static_item 0 (omega arith)) (open_function 0 low (says_plain_function false))))
+  says_at_stage (suc zero) low = m_choice (extern_item 1 (omega arith)) (m_choice (says_static_item 1 (omega arith)) (open_function 1 low (says_function false)))
+  says_at_stage (suc (suc zero)) low = m_choice (says_static_item 2 (omega arith)) (open_function 2 low (says_function false))
+  says_at_stage (suc (suc (suc n))) low = m_choice (says_hidden_function (suc (suc (suc n))) low) (open_function (suc (suc (suc n))) low (says_function false))

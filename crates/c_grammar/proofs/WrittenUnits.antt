@@ -83,7 +83,7 @@ extern_head Void is = first_of (mapped (λ _. Void) (one_piece (Word (codes "voi
 extern_head (Value s) is = second_of (mapped Value (scalar_written s))
 extern_head (Pointer constant b) is = absurd is
 
-extern_typed : (t : CType) → ExternResultInSubset t → (x : Name) → type_text t ++ codes " " ++ x ≡ typed_text t x
+pub extern_typed : (t : CType) → ExternResultInSubset t → (x : Name) → type_text t ++ codes " " ++ x ≡ typed_text t x
 extern_typed Void is x = refl
 extern_typed (Value s) is x = refl
 extern_typed (Pointer constant b) is x = absurd is

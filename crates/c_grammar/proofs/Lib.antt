@@ -16,3 +16,4 @@ pub mod SaysExpressions
 pub mod SaysLists
 pub mod SaysStatements
 pub mod SaysUnits
+pub mod SaysTexts

@@ -36,7 +36,7 @@ use Rattle.c_grammar.proofs.SaysStatements.{says_equals, indent_is}
 use Rattle.c_grammar.proofs.WrittenStatements.{scalar_const_text, struct_const_text, held_text}
 use Rattle.c_grammar.proofs.WrittenUnits.{shown, scalar_typed, struct_typed, regroup, rest_text, extern_typed}
 
-end_says : {d : ℕ} {L : (n : Symbol) → Language Piece (Tree n)} → Says d L (after semicolon new_line) (λ _. Unit {0}) (λ _. codes ";\n")
+pub end_says : {d : ℕ} {L : (n : Symbol) → Language Piece (Tree n)} → Says d L (after semicolon new_line) (λ _. Unit {0}) (λ _. codes ";\n")
 end_says = s_after s_fixed s_fixed
 
 -- ---- members, at the one depth at which they stand

@@ -29,3 +29,7 @@ TextsAreSpelled = (u : TranslationUnit) → InSubset u → Spelled Text u (piece
 -- the bytes that spell a unit spell no other
 abbrev pub TextsTellUnitsApart : Type 0
 TextsTellUnitsApart = (u v : TranslationUnit) (bytes : List ℕ) → Spells u bytes → Spells v bytes → u ≡ v
+
+-- and where the pieces of some bytes spell a unit, these bytes are its text, and it is in the subset
+abbrev pub SpelledBytesAreTexts : Type 0
+SpelledBytesAreTexts = (u : TranslationUnit) (bytes : List ℕ) → Spelled Text u (pieces bytes) → Spells u bytes

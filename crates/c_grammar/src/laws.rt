@@ -1,4 +1,4 @@
-ghost use Rattle.c_grammar.specs.Laws.{PiecesAreTheText, PiecesSpellOneUnit, TextsAreSpelled, TextsTellUnitsApart, UnitsAreReadExactly};
+ghost use Rattle.c_grammar.specs.Laws.{PiecesAreTheText, PiecesSpellOneUnit, SpelledBytesAreTexts, TextsAreSpelled, TextsTellUnitsApart, UnitsAreReadExactly};
 
 /// The pieces of a text, joined, are that text.
 pub fn pieces_are_the_text()
@@ -23,4 +23,9 @@ pub fn texts_are_spelled()
 /// The bytes that spell a unit spell no other.
 pub fn texts_tell_units_apart()
     ensures { TextsTellUnitsApart }
+{}
+
+/// Where the pieces of some bytes spell a unit, these bytes are its text.
+pub fn spelled_bytes_are_texts()
+    ensures { SpelledBytesAreTexts }
 {}

@@ -1,5 +1,5 @@
 -- The grammar puts no piece beside one into which it runs on: the pieces of a row are those of its text.
-use Rattle.std.proofs.Common.{◌≡◌, ℕ, zero, suc, Bool, true, false, not, List, [], ◌∷◌, refl, sym, ap, ◌∙◌, subst, if◌then◌else◌, cond}
+use Rattle.std.proofs.Common.{◌≡◌, ℕ, suc, Bool, true, false, not, List, [], ◌∷◌, refl, ap, subst, if◌then◌else◌}
 use Rattle.std.specs.Prelude.{◌==◌, ◌&&◌, is_some, nat_eq}
 use Rattle.std.proofs.lemmas.Bool.{and_parts}
 use Rattle.c_text.specs.Identifiers.{begins_as_identifier}
@@ -39,7 +39,7 @@ wordy w =
     let P : ℕ → Type 0 = λ k. is_wordy k ≡ true in
     let used : P (place_in 1 keywords_used w) = place_wordy w 1 keywords_used all_used in
     let letters : P (if is_name w then name_word else (if is_some (word_scalar w) then scalar_word else place_in 1 keywords_used w)) =
-        one_of P (is_name w) name_word (if is_some (word_scalar w) then scalar_word else place_in 1 keywords_used w) refl (one_of P (is_some (word_scalar w)) scalar_word (place_in 1 keywords_used w) refl used) in
+    one_of P (is_name w) name_word (if is_some (word_scalar w) then scalar_word else place_in 1 keywords_used w) refl (one_of P (is_some (word_scalar w)) scalar_word (place_in 1 keywords_used w) refl used) in
     one_of P (begins_as_identifier w) (if is_name w then name_word else (if is_some (word_scalar w) then scalar_word else place_in 1 keywords_used w)) (if is_some (word_number w) then number_word else other)
     letters (one_of P (is_some (word_number w)) number_word other refl refl)
 

@@ -1,9 +1,9 @@
 -- What the rows of a rule say, rule by rule: which values they spell, and the text that their pieces make.
-use Rattle.std.proofs.Common.{◌≡◌, ℕ, zero, suc, ◌≤◌, Bool, true, false, cond, List, [], ◌∷◌, ◌++◌, map, All, inl, inr, refl, sym, ap, ◌∙◌, subst, append_assoc, Option, Some, None, if◌then◌else◌}
+use Rattle.std.proofs.Common.{◌≡◌, ℕ, suc, Bool, true, false, List, [], ◌∷◌, ◌++◌, map, All, inl, inr, refl, sym, ap, ◌∙◌, subst, Option, Some, None, if◌then◌else◌}
 use Rattle.std.specs.Prelude.{nat_eq}
 use Rattle.std.proofs.lemmas.Bool.{eqb-true, and_parts}
 use Rattle.std.proofs.lemmas.List.Elements.{All-nil, All-cons}
-use Rattle.reading.specs.Row.{Entry, Row, tokens}
+use Rattle.reading.specs.Row.{Row, tokens}
 use Rattle.reading.specs.Language.{Language, Many}
 use Rattle.reading.proofs.Rows.{append_nil}
 use Rattle.iv_words.specs.Words.{same_word}
@@ -11,7 +11,7 @@ use Rattle.c_text.specs.TypeText.{texts}
 use Rattle.grammars.specs.Grammar as rules
 use Rattle.grammars.specs.Grammar.{of_kind, stage, token, empty, sequence, split, choice, repeat, brackets, after, before, optional}
 use Rattle.grammars.specs.Spelled.{SpellsWith}
-use Rattle.grammars.proofs.Sets.{kind_is, value_is, stage_within}
+use Rattle.grammars.proofs.Sets.{value_is}
 use Rattle.c_grammar.specs.Pieces.{Piece, Word, Blanks, Byte, piece_text, joined}
 use Rattle.c_grammar.specs.Kinds.{lexicon, same_piece, exactly}
 use Rattle.c_grammar.specs.Symbols.{Symbol, Tree, Rule, pair}

@@ -1,27 +1,22 @@
 -- What the rules of expressions, places, initializers and calls say.
 use Rattle.std.proofs.Common.{◌≡◌, ◌≢◌, ℕ, zero, suc, ◌^◌, ◌<◌, Bool, true, false, List, [], ◌∷◌, ◌++◌, All, refl, sym, ap, ◌∙◌, subst, append_assoc, arith, if◌then◌else◌, Option, Some, None, codes, decimal}
 use Rattle.std.proofs.Common as list
-use Rattle.std.proofs.lemmas.Fmt.{decimal_digit}
-use Rattle.std.proofs.lemmas.List.Elements.{All-nil, All-cons, All-head, All-tail}
+use Rattle.std.proofs.lemmas.List.Elements.{All-head, All-tail}
 use Rattle.reading.specs.Row.{Row, tokens}
 use Rattle.reading.specs.Language.{Language}
 use Rattle.reading.proofs.Rows.{append_nil}
-use Rattle.c_ast.specs.declared.types.CType.{CType}
-use Rattle.c_ast.specs.declared.expr.Suffix.{Suffix}
-use Rattle.c_ast.specs.declared.expr.Suffix.TheVariants.{Plain, U, Ll, Ull}
-use Rattle.c_ast.specs.declared.expr.CUnary.{CUnary}
 use Rattle.c_ast.specs.declared.expr.CUnary.TheVariants.{Neg, Flip, Not}
 use Rattle.c_ast.specs.declared.expr.CBinary.{CBinary}
-use Rattle.c_ast.specs.declared.expr.CBinary.TheVariants.{Add, Sub, Mul, Div, Rem, And, Or, Xor, Shl, Shr, Eq, Ne, Lt, Le, Gt, Ge, AndAlso, OrElse}
-use Rattle.c_ast.specs.Syntax.{Name, Expr, Number, Read, Address, Unary, Binary, Cast, Cond, Place, Var, At, Member, Element, Init, One, Zero, Many, Inits, NoInits, MoreInits}
+use Rattle.c_ast.specs.declared.expr.CBinary.TheVariants.{Add, Sub, Mul, Div, Rem, Xor, Shl, Shr, Eq, Ne, Le, Ge, AndAlso, OrElse}
+use Rattle.c_ast.specs.Syntax.{Expr, Read, Address, Unary, Binary, Cast, Cond, Place, Var, At}
 use Rattle.c_text.specs.Identifiers.{IsIdentifier}
-use Rattle.c_text.specs.TypeText.{type_text, listed, texts}
-use Rattle.c_text.specs.ExpressionText.{suffix_text, unary_text, binary_text, expr_text, place_text, init_text, init_texts}
-use Rattle.c_text.specs.Subset.{ValueInSubset, ExprInSubset, PlaceInSubset, InitInSubset, InitsInSubset, IsNotZero}
+use Rattle.c_text.specs.TypeText.{type_text, texts}
+use Rattle.c_text.specs.ExpressionText.{binary_text, expr_text, place_text}
+use Rattle.c_text.specs.Subset.{ValueInSubset, ExprInSubset, PlaceInSubset}
 use Rattle.grammars.specs.Grammar.{stage, map, choice, repeat, after}
 use Rattle.c_grammar.specs.Pieces.{Piece, joined}
-use Rattle.c_grammar.specs.Symbols.{Symbol, Tree, Rule, mark, an_expression, a_pointer, an_inner, an_inside, arguments, initializers, parens, squares, braces, Side, left, right, Inside, type_inside, pointer_inside, value_inside_it}
-use Rattle.c_grammar.specs.ExpressionRules.{Step, step_on, steps_on, named_place, place_behind, step, place_of_name, place_of_pointer, place, number_expr, number, operand, BehindInner, behind_inner, inner_way, inner_value, in_parens, expression, operator, longer, binary_operator, Tail, with_tail, binary_tail, cond_tail, tail, BehindInside, behind_inside, inside_way, inside_value, cast_or_tail, address, unary, operand_first, value_inside, pointer_rule, inner_rule, inside_rule}
+use Rattle.c_grammar.specs.Symbols.{Symbol, Tree, Rule, mark, an_expression, a_pointer, an_inner, an_inside, parens, squares, braces, Side, left, right, Inside, type_inside, pointer_inside, value_inside_it}
+use Rattle.c_grammar.specs.ExpressionRules.{Step, step_on, steps_on, named_place, place_behind, step, place_of_name, place, number_expr, number, operand, BehindInner, behind_inner, inner_way, inner_value, in_parens, expression, operator, longer, binary_operator, Tail, with_tail, binary_tail, cond_tail, tail, BehindInside, behind_inside, inside_way, inside_value, cast_or_tail, address, unary, value_inside, pointer_rule, inner_rule, inside_rule}
 use Rattle.c_grammar.proofs.Says.{Means, Is, Says, IfThere, text_if, m_map, m_sequence, m_choice, m_empty, m_as, m_split, m_brackets, s_fixed, s_sequence, s_after, s_before, s_pair, s_map, s_as, s_optional, s_repeat}
 use Rattle.c_grammar.proofs.SaysTypes.{says_name, says_number, says_value_type}
 use Rattle.c_grammar.proofs.Meanings.{Closed, Pointed, Meaning, byte_is}
@@ -212,7 +207,7 @@ module _ (d : ℕ) (L : (n : Symbol) → Language Piece (Tree n)) (inner : (n : 
       at (pointer_inside e) (steps, x) s t i j =
           let k = behind_says e steps i.good j.good.0 in
           let one : s ++ t ≡ expr_text (Read (place_behind e steps)) ++ tail_text x =
-              ap (λ z. z ++ t) i.is ∙ ap (λ z. (40 ∷ ((codes "*" ++ expr_text e) ++ 41 ∷ [])) ++ z) j.is ∙ sym (append_assoc (40 ∷ ((codes "*" ++ expr_text e) ++ 41 ∷ [])) (steps_text steps) (tail_text x)) ∙ ap (λ z. z ++ tail_text x) k.1 in
+          ap (λ z. z ++ t) i.is ∙ ap (λ z. (40 ∷ ((codes "*" ++ expr_text e) ++ 41 ∷ [])) ++ z) j.is ∙ sym (append_assoc (40 ∷ ((codes "*" ++ expr_text e) ++ 41 ∷ [])) (steps_text steps) (tail_text x)) ∙ ap (λ z. z ++ tail_text x) k.1 in
           subst (Closed (with_tail (Read (place_behind e steps)) x)) (sym one) (with_tail_says (Read (place_behind e steps)) x (expr_text (Read (place_behind e steps))) (tail_text x) record { good = k.0; is = refl } record { good = j.good.1; is = refl })
       at (value_inside_it e) x s t i j = with_tail_says e x s t i j
 

@@ -1,23 +1,23 @@
 -- What lists with commas, calls and initializers say.
-use Rattle.std.proofs.Common.{◌≡◌, ◌≢◌, ℕ, zero, suc, Bool, true, false, List, [], ◌∷◌, ◌++◌, map, All, refl, sym, ap, ◌∙◌, subst, append_assoc, arith, if◌then◌else◌, Option, Some, None, codes, decimal}
+use Rattle.std.proofs.Common.{◌≡◌, ℕ, suc, Bool, true, false, List, [], ◌∷◌, ◌++◌, map, All, refl, sym, ap, ◌∙◌, append_assoc, arith, if◌then◌else◌, codes, decimal}
 use Rattle.std.proofs.lemmas.Fmt.{decimal_digit}
 use Rattle.std.proofs.lemmas.List.Elements.{All-nil, All-cons, All-head, All-tail}
 use Rattle.reading.specs.Row.{Row, tokens}
 use Rattle.reading.specs.Language.{Language}
 use Rattle.reading.proofs.Rows.{append_nil}
 use Rattle.c_ast.specs.declared.expr.Suffix.TheVariants.{Plain}
-use Rattle.c_ast.specs.Syntax.{Expr, Number, Init, One, Zero, Many, Inits, NoInits, MoreInits}
+use Rattle.c_ast.specs.Syntax.{Number, Init, One, Zero, Many}
 use Rattle.c_text.specs.TypeText.{listed, texts}
 use Rattle.c_text.specs.ExpressionText.{expr_text, init_text, init_texts}
 use Rattle.c_text.specs.Subset.{ExprInSubset, InitInSubset, InitsInSubset, IsNotZero}
 use Rattle.grammars.specs.Grammar.{separated}
 use Rattle.c_grammar.specs.Pieces.{Piece, joined}
-use Rattle.c_grammar.specs.Symbols.{Symbol, Tree, Rule, arguments, initializers, comma, parens, braces}
-use Rattle.c_grammar.specs.ExpressionRules.{initializer, initializers_rule, arguments_rule, inits_of, is_zero_init, is_zero, braced}
-use Rattle.c_grammar.proofs.Says.{Means, Is, Says, m_map, m_sequence, m_choice, m_empty, m_as, s_fixed, s_after, s_map, s_repeat}
+use Rattle.c_grammar.specs.Symbols.{Symbol, Tree, Rule, arguments, initializers, comma, parens}
+use Rattle.c_grammar.specs.ExpressionRules.{initializer, initializers_rule, arguments_rule, inits_of, is_zero, braced}
+use Rattle.c_grammar.proofs.Says.{Means, Is, Says, m_map, m_sequence, m_choice, m_empty, s_fixed, s_after, s_map, s_repeat}
 use Rattle.c_grammar.proofs.Meanings.{Meaning}
 use Rattle.c_grammar.proofs.SaysExpressions.{m_parens, m_braces, says_expression}
-use Rattle.c_grammar.proofs.WrittenLists.{list_of, inits_back, zero_init}
+use Rattle.c_grammar.proofs.WrittenLists.{list_of, zero_init}
 
 listed_texts : {A : Type 0} (s : A → List ℕ) (x : A) (xs : List A) → s x ++ texts (map (λ y. codes ", " ++ s y) xs) ≡ listed (map s (x ∷ xs))
 listed_texts s x [] = append_nil (s x)

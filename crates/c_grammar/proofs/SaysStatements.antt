@@ -3,7 +3,7 @@ use Rattle.std.proofs.Common.{◌≡◌, cond, ℕ, zero, suc, ◌+◌, ◌*◌,
 use Rattle.std.specs.Prelude.{nat_eq}
 use Rattle.std.proofs.Common as list
 use Rattle.std.proofs.lemmas.Bool.{eqb-true, eqb-false}
-use Rattle.std.proofs.lemmas.List.Elements.{All-nil, All-cons, All-head, All-tail}
+use Rattle.std.proofs.lemmas.List.Elements.{All-head, All-tail}
 use Rattle.reading.specs.Row.{Row, tokens}
 use Rattle.reading.specs.Language.{Language}
 use Rattle.reading.proofs.Rows.{append_nil}
@@ -11,22 +11,21 @@ use Rattle.c_ast.specs.declared.types.CScalar.{CScalar}
 use Rattle.c_ast.specs.declared.types.CBase.{CBase}
 use Rattle.c_ast.specs.declared.types.CBase.TheVariants.{Scalar, Struct}
 use Rattle.c_ast.specs.declared.types.CType.{CType}
-use Rattle.c_ast.specs.declared.types.CType.TheVariants.{Void, Value, Pointer}
-use Rattle.c_ast.specs.Syntax.{Name, Expr, Place, Read, Var, At, Init, FunctionCall, Stmt, Const, ConstCall, Object, Assign, If, IfElse, Forever, Break, Return, Block, Call, Stmts, Nil, Cons}
+use Rattle.c_ast.specs.Syntax.{Name, Expr, Place, Var, At, Init, FunctionCall, Stmt, Object, Assign, Forever, Break, Return, Block, Stmts}
 use Rattle.c_text.specs.Identifiers.{IsIdentifier}
-use Rattle.c_text.specs.TypeText.{line, listed, texts, scalar_text, base_text, const_text, object_text}
+use Rattle.c_text.specs.TypeText.{line, listed, texts, scalar_text, const_text, object_text}
 use Rattle.c_text.specs.ExpressionText.{expr_text, place_text, init_text, call_text}
 use Rattle.c_text.specs.StatementText.{indent, first_value_text, return_text, block_text, stmt_text, stmts_text}
 use Rattle.c_text.specs.Subset.{BaseInSubset, ValueInSubset, ExprInSubset, PlaceInSubset, InitInSubset, CallInSubset, FirstValueInSubset, ReturnInSubset, StmtInSubset, StmtsInSubset}
-use Rattle.grammars.specs.Grammar.{of_kind, token, map, sequence, choice, repeat, after, before, optional}
+use Rattle.grammars.specs.Grammar.{of_kind, token, map, sequence, choice, before}
 use Rattle.grammars.proofs.Sets.{kind_is}
 use Rattle.c_grammar.specs.Pieces.{Piece, Word, Blanks, Byte, piece_text, joined}
-use Rattle.c_grammar.specs.Kinds.{lexicon, kind, kind_of, is_whole, word_kind, blanks_kind, line_blanks, closing_blanks, one_blank, indentation, outdentation, other, is_wordy}
-use Rattle.c_grammar.specs.Symbols.{Symbol, Tree, Rule, Side, left, right, pair, an_expression, arguments, forever, a_block, parens, braces, new_line, semicolon}
-use Rattle.c_grammar.specs.TypeRules.{scalar_type, struct_pointer, held, held_pointer}
-use Rattle.c_grammar.specs.ExpressionRules.{Step, named_place, place_behind, step, expression, initializer}
-use Rattle.c_grammar.specs.StatementRules.{equals, call_of, named_value, call_or_steps, value_or_call, Held, Declared, held_as, declared_scalar, declared_struct, object, behind_scalar, behind_struct, declaration, Assigned, assigned, named_statement, pointed_statement, name_first, pointer_first, break_statement, return_statement, simple, block, if_with, condition, otherwise, if_statement, for_statement, statement, stmts_of, statement_line, lines, block_rule}
-use Rattle.c_grammar.proofs.Says.{Means, Is, Says, IfThere, text_if, m_token, m_map, m_sequence, m_choice, m_empty, m_as, s_fixed, s_sequence, s_after, s_before, s_pair, s_map, s_as, s_optional, s_repeat}
+use Rattle.c_grammar.specs.Kinds.{lexicon, kind, kind_of, is_whole, blanks_kind, line_blanks, closing_blanks, one_blank, indentation, outdentation, other, is_wordy}
+use Rattle.c_grammar.specs.Symbols.{Symbol, Tree, Rule, Side, left, right, pair, an_expression, arguments, forever, a_block, parens, new_line}
+use Rattle.c_grammar.specs.TypeRules.{scalar_type, struct_pointer}
+use Rattle.c_grammar.specs.ExpressionRules.{Step, named_place, place_behind}
+use Rattle.c_grammar.specs.StatementRules.{equals, call_of, named_value, call_or_steps, value_or_call, Held, Declared, held_as, declared_scalar, declared_struct, object, behind_scalar, behind_struct, declaration, Assigned, assigned, named_statement, pointed_statement, simple, block, if_with, condition, otherwise, statement, stmts_of, statement_line, lines, block_rule}
+use Rattle.c_grammar.proofs.Says.{Means, Is, Says, IfThere, text_if, m_token, m_map, m_sequence, m_choice, m_as, s_fixed, s_sequence, s_after, s_before, s_pair, s_map, s_as, s_optional, s_repeat}
 use Rattle.c_grammar.proofs.SaysTypes.{says_name, says_scalar, says_tag, says_held, says_held_pointer}
 use Rattle.c_grammar.proofs.Parted.{wordy}
 use Rattle.c_grammar.proofs.Meanings.{Meaning}
@@ -311,7 +310,7 @@ module _ (b : ℕ) (L : (n : Symbol) → Language Piece (Tree n)) (inner : (n : 
   says_statement_line =
       let first : Says (suc b) L (token {A = Piece} indentation Some) (λ _. Unit {0}) (λ _. indent (suc b)) = m_token (λ p v e. record { good = tt; is = indent_is b p v e }) in
       let rest : Means (suc b) L (before statement new_line) (λ s t. StmtInSubset s × (indent (suc b) ++ t ≡ stmt_text (suc b) s)) =
-          m_sequence {P = StatementIs b} {R = Is (λ _. Unit {0}) (λ _. codes "\n")} (λ s _. s) says_statement s_fixed (λ s p t u i j. (i.good, ap (λ z. indent (suc b) ++ (t ++ z)) j.is ∙ i.is)) in
+      m_sequence {P = StatementIs b} {R = Is (λ _. Unit {0}) (λ _. codes "\n")} (λ s _. s) says_statement s_fixed (λ s p t u i j. (i.good, ap (λ z. indent (suc b) ++ (t ++ z)) j.is ∙ i.is)) in
       m_sequence (λ _ s. s) first rest (λ p s t u i j. record { good = j.0; is = ap (λ z. z ++ u) i.is ∙ j.1 })
 
   pub says_lines : Says (suc b) L lines StmtsInSubset (λ ss. codes "\n" ++ stmts_text (suc b) ss)

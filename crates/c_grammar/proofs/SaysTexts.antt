@@ -4,14 +4,13 @@ use Rattle.std.proofs.lemmas.List.Elements.{All-nil, All-cons}
 use Rattle.reading.specs.Row.{Row, tokens}
 use Rattle.reading.specs.Language.{Language}
 use Rattle.reading.specs.Exact.{Spelled}
-use Rattle.reading.proofs.Rows.{append_nil}
-use Rattle.c_ast.specs.Syntax.{FileObject, Function, TranslationUnit}
+use Rattle.c_ast.specs.Syntax.{TranslationUnit}
 use Rattle.c_text.specs.TypeText.{texts}
 use Rattle.c_text.specs.Spelling.{struct_text, extern_text, file_object_text, function_text, fixed_text, unit_text}
 use Rattle.c_text.specs.Subset.{StructInSubset, ExternInSubset, ObjectInSubset, FunctionInSubset, InSubset}
 use Rattle.c_text.specs.ReadsBack as text
 use Rattle.grammars.specs.Grammar.{stage}
-use Rattle.grammars.specs.Spelled.{InStages, SpellsWith, SpellsUpTo, Spells}
+use Rattle.grammars.specs.Spelled.{InStages, SpellsWith, SpellsUpTo}
 use Rattle.grammars.proofs.Sets.{stage_within}
 use Rattle.c_grammar.specs.Pieces.{Piece, joined, pieces}
 use Rattle.c_grammar.specs.Kinds.{lexicon}
@@ -20,13 +19,13 @@ use Rattle.c_grammar.specs.UnitRules.{Item, a_struct, an_extern, an_object, a_fu
 use Rattle.c_grammar.specs.Subset.{grammar, Text}
 use Rattle.c_grammar.proofs.Cut.{pieces_joined}
 use Rattle.c_grammar.proofs.Written.{joined_append}
-use Rattle.c_grammar.proofs.Says.{Means, Is, Says, m_as, m_map, m_sequence, s_fixed, s_after, s_map}
+use Rattle.c_grammar.proofs.Says.{Means, Is, Says, m_as, m_map, m_sequence, s_fixed, s_after}
 use Rattle.c_grammar.proofs.SaysTypes.{says_length}
 use Rattle.c_grammar.proofs.Meanings.{Meaning}
 use Rattle.c_grammar.proofs.SaysExpressions.{m_parens, says_expression, says_pointer_rule, says_inner, says_inside}
 use Rattle.c_grammar.proofs.SaysLists.{says_arguments_rule, says_initializers_rule}
 use Rattle.c_grammar.proofs.SaysStatements.{says_lines, says_block_rule}
-use Rattle.c_grammar.proofs.SaysUnits.{ItemIn, item_text, ItemIs, end_says, says_members_rule, says_types_rule, says_params_rule, says_at_stage}
+use Rattle.c_grammar.proofs.SaysUnits.{ItemIn, item_text, end_says, says_members_rule, says_types_rule, says_params_rule, says_at_stage}
 
 -- ---- items in the order of their ranks
 
@@ -162,9 +161,10 @@ module _ (L : (n : Symbol) → Language Piece (Tree n)) (inner : (n : Symbol) (x
   says_items = record { means = λ xs row s. items_say L inner 0 (omega arith) xs row s }
 
   unit_is : (xs : List Item) (t : List ℕ) → Items 0 xs t → InSubset (unit_of xs) × (fixed_text ++ t ≡ unit_text (unit_of xs))
-  unit_is xs t i =
-      (record { structs = structs_good xs i.good; externs = externs_good xs i.good; objects = objects_good xs i.good; functions = functions_good xs i.good },
-      ap (λ z. fixed_text ++ z) (i.is ∙ in_parts 0 xs i.order) ∙ plain fixed_text (structs_text xs) (externs_text xs) (objects_text xs) (functions_text xs))
+  unit_is xs t i = (
+    record { structs = structs_good xs i.good; externs = externs_good xs i.good; objects = objects_good xs i.good; functions = functions_good xs i.good },
+    ap (λ z. fixed_text ++ z) (i.is ∙ in_parts 0 xs i.order) ∙ plain fixed_text (structs_text xs) (externs_text xs) (objects_text xs) (functions_text xs),
+  )
     where
       plain : (a b c e f : List ℕ) → a ++ (b ++ (c ++ (e ++ f))) ≡ (a ++ b ++ c ++ e) ++ f
       plain a b c e f = simp append_assoc refl

@@ -1,8 +1,8 @@
 -- What the rules of types and names say.
-use Rattle.std.proofs.Common.{◌≡◌, ℕ, zero, suc, ◌+◌, ◌*◌, ◌-◌, ◌^◌, ◌<◌, ◌≤◌, Bool, true, false, not, cond, ◌&&◌, List, [], ◌∷◌, ◌++◌, length, get_or, refl, sym, ap, ◌∙◌, subst, append_assoc, arith, Option, Some, None, codes, decimal, if◌then◌else◌}
+use Rattle.std.proofs.Common.{◌≡◌, ℕ, ◌^◌, ◌<◌, Bool, true, false, not, ◌&&◌, List, [], ◌∷◌, ◌++◌, length, get_or, refl, sym, ap, ◌∙◌, subst, arith, Option, Some, None, codes, decimal, if◌then◌else◌}
 use Rattle.std.specs.Prelude.{nat_eq, nat_lt, nat_le, ◌==◌}
 use Rattle.std.specs.List.{list_all}
-use Rattle.std.proofs.lemmas.Bool.{eqb-true, eqb-false, and_parts, leb-true, ltb-true, not-true}
+use Rattle.std.proofs.lemmas.Bool.{and_parts, leb-true, ltb-true}
 use Rattle.std.proofs.lemmas.Fmt.{decimal-digits_value}
 use Rattle.reading.proofs.Rows.{append_nil}
 use Rattle.reading.specs.Language.{Language}
@@ -10,10 +10,7 @@ use Rattle.c_ast.specs.declared.types.CScalar.{CScalar}
 use Rattle.c_ast.specs.declared.types.CScalar.TheVariants.{Truth, Int}
 use Rattle.iv_words.specs.declared.kind.IntKind.TheVariants.{U8, U16, U32, U64, I8, I16, I32, I64}
 use Rattle.iv_words.specs.Words.{same_word}
-use Rattle.c_ast.specs.declared.types.CBase.{CBase}
 use Rattle.c_ast.specs.declared.types.CBase.TheVariants.{Scalar, Struct}
-use Rattle.c_ast.specs.declared.types.CType.{CType}
-use Rattle.c_ast.specs.declared.types.CType.TheVariants.{Void, Value, Pointer}
 use Rattle.c_ast.specs.declared.expr.Suffix.{Suffix}
 use Rattle.c_ast.specs.declared.expr.Suffix.TheVariants.{Plain, U, Ll, Ull}
 use Rattle.c_ast.specs.Syntax.{Name}
@@ -21,14 +18,14 @@ use Rattle.c_text.specs.Identifiers.{is_digit, is_identifier_byte, begins_as_ide
 use Rattle.c_text.specs.TypeText.{scalar_text, base_text, star_text, type_text}
 use Rattle.c_text.specs.ExpressionText.{suffix_text}
 use Rattle.c_text.specs.Subset.{BaseInSubset, ValueInSubset}
-use Rattle.grammars.specs.Grammar.{of_kind, token, map, choice, after}
-use Rattle.grammars.proofs.Sets.{kind_is, value_is}
+use Rattle.grammars.specs.Grammar.{token, map, choice, after}
+use Rattle.grammars.proofs.Sets.{value_is}
 use Rattle.c_grammar.specs.Pieces.{Piece, Word, Blanks, Byte, piece_text}
 use Rattle.c_grammar.specs.Kinds.{lexicon, is_name, name_of, word_scalar, scalar_of, digits, behind_digits, value_behind, is_plain, with_suffix, suffix_of, word_number, number_of, as_length, length_of, name_word, number_word, scalar_word}
-use Rattle.c_grammar.specs.Symbols.{Symbol, Tree, Rule, blank, star, word_const}
+use Rattle.c_grammar.specs.Symbols.{Symbol, Tree, blank, star, word_const}
 use Rattle.c_grammar.specs.TypeRules.{name, scalar, tag, base, scalar_type, struct_pointer, pointer, value_type, not_to_const, to_const, some_pointer, no_pointer, const_name, held_pointer, held, pointer_name, typed_name}
 use Rattle.c_grammar.proofs.Words.{numerals}
-use Rattle.c_grammar.proofs.Says.{Means, Is, Says, m_token, m_choice, picked_true, s_fixed, s_sequence, s_after, s_map, s_as, s_optional, IfThere, text_if, same_word_is}
+use Rattle.c_grammar.proofs.Says.{Says, m_token, m_choice, picked_true, s_fixed, s_sequence, s_after, s_map, s_as, s_optional, IfThere, text_if, same_word_is}
 use Rattle.c_grammar.proofs.WrittenStatements.{held_text}
 use Rattle.c_grammar.proofs.WrittenUnits.{shown}
 
@@ -180,7 +177,7 @@ module _ {d : ℕ} {L : (n : Symbol) → Language Piece (Tree n)} where
   pub says_pointer : Says d L pointer (λ _. Unit {0}) star_text
   says_pointer =
       let star_first : Says d L (choice (map (λ _. false) star) (map (λ _. true) (after word_const (after blank star)))) (λ _. Unit {0}) behind_blank =
-          m_choice (s_map (λ _. false) s_fixed (λ p i. (tt, refl))) (s_map (λ _. true) (s_after s_fixed (s_after s_fixed s_fixed)) (λ p i. (tt, refl))) in
+      m_choice (s_map (λ _. false) s_fixed (λ p i. (tt, refl))) (s_map (λ _. true) (s_after s_fixed (s_after s_fixed s_fixed)) (λ p i. (tt, refl))) in
       s_as (s_after s_fixed star_first) pointer_text
     where
       pointer_text : (c : Bool) → Unit {0} → Unit {0} × (codes " " ++ behind_blank c ≡ star_text c)
@@ -205,7 +202,7 @@ module _ {d : ℕ} {L : (n : Symbol) → Language Piece (Tree n)} where
   pub says_held : Says d L held (λ h. IsIdentifier h.1) (λ h. held_text h.0 h.1)
   says_held =
       let inner : Says d L (choice (map (λ x. some_pointer (to_const x)) (after star const_name)) (map no_pointer name)) ToConst behind_const_text =
-          m_choice (s_map (λ x. some_pointer (to_const x)) (s_after s_fixed says_const_name) (λ x i. (i, refl))) (s_map no_pointer says_name (λ x i. (i, refl))) in
+      m_choice (s_map (λ x. some_pointer (to_const x)) (s_after s_fixed says_const_name) (λ x i. (i, refl))) (s_map no_pointer says_name (λ x i. (i, refl))) in
       m_choice (s_map (λ x. some_pointer (not_to_const x)) (s_after s_fixed says_const_name) (λ x i. (i, refl))) (s_as (s_after s_fixed (s_after s_fixed inner)) at)
     where
       at : (h : Option Bool × Name) → ToConst h → IsIdentifier h.1 × (codes "const" ++ (codes " " ++ behind_const_text h) ≡ held_text h.0 h.1)

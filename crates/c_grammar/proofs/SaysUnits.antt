@@ -1,35 +1,31 @@
 -- What the rules of structs, externs, objects and functions say.
-use Rattle.std.proofs.Common.{◌≡◌, ◌≢◌, ℕ, zero, suc, ◌+◌, ◌<◌, ◌≤◌, ◌^◌, Bool, true, false, List, [], ◌∷◌, ◌++◌, map, All, refl, sym, ap, ◌∙◌, subst, append_assoc, arith, if◌then◌else◌, Option, Some, None, codes, decimal}
-use Rattle.std.proofs.lemmas.List.Elements.{All-nil, All-cons, All-head, All-tail}
+use Rattle.std.proofs.Common.{◌≡◌, ℕ, zero, suc, ◌<◌, ◌≤◌, ◌^◌, Bool, true, false, List, [], ◌∷◌, ◌++◌, map, All, refl, sym, ap, ◌∙◌, append_assoc, arith, Option, Some, None, codes, decimal}
+use Rattle.std.proofs.lemmas.List.Elements.{All-nil, All-cons}
 use Rattle.reading.specs.Row.{Row, tokens}
 use Rattle.reading.specs.Language.{Language}
-use Rattle.reading.proofs.Rows.{append_nil}
 use Rattle.c_ast.specs.declared.types.CScalar.{CScalar}
 use Rattle.c_ast.specs.declared.types.CBase.{CBase}
 use Rattle.c_ast.specs.declared.types.CBase.TheVariants.{Scalar, Struct}
 use Rattle.c_ast.specs.declared.types.CType.{CType}
-use Rattle.c_ast.specs.declared.types.CType.TheVariants.{Void, Value, Pointer}
+use Rattle.c_ast.specs.declared.types.CType.TheVariants.{Void, Value}
 use Rattle.c_ast.specs.declared.unit.CMember.{CMember}
-use Rattle.c_ast.specs.declared.unit.CStruct.{CStruct}
-use Rattle.c_ast.specs.declared.unit.CExtern.{CExtern}
-use Rattle.c_ast.specs.declared.unit.CParam.{CParam}
-use Rattle.c_ast.specs.Syntax.{Name, Init, Stmts, FileObject, Function, TranslationUnit}
+use Rattle.c_ast.specs.Syntax.{Name, Init, Function}
 use Rattle.c_text.specs.Identifiers.{IsIdentifier}
-use Rattle.c_text.specs.TypeText.{line, listed, texts, scalar_text, base_text, type_text, typed_text, const_text, object_text}
+use Rattle.c_text.specs.TypeText.{line, texts, scalar_text, base_text, type_text, typed_text}
 use Rattle.c_text.specs.ExpressionText.{init_text}
-use Rattle.c_text.specs.StatementText.{block_text, stmts_text, indent}
+use Rattle.c_text.specs.StatementText.{block_text, stmts_text}
 use Rattle.c_text.specs.Spelling.{length_text, member_text, struct_text, params_text, extern_text, base_const_text, file_object_text, storage_text, param_text, function_text}
 use Rattle.c_text.specs.Subset.{BaseInSubset, ValueInSubset, ResultInSubset, ExternResultInSubset, InitInSubset, StmtsInSubset, LengthInSubset, MemberInSubset, StructInSubset, ExternInSubset, ObjectInSubset, ParamInSubset, FunctionInSubset}
 use Rattle.grammars.specs.Grammar as rules
 use Rattle.grammars.specs.Grammar.{token, sequence, choice, repeat, after, before}
-use Rattle.c_grammar.specs.Pieces.{Piece, Word, Blanks, Byte, joined}
+use Rattle.c_grammar.specs.Pieces.{Piece, joined}
 use Rattle.c_grammar.specs.Kinds.{indentation}
-use Rattle.c_grammar.specs.Symbols.{Rule, Symbol, Tree, Side, left, right, pair, a_length, a_body, the_members, the_types, the_params, stop_params, parens, squares, braces, new_line, semicolon, star, blank}
-use Rattle.c_grammar.specs.TypeRules.{name, base, scalar, tag, scalar_type, struct_pointer, not_to_const, to_const, pointer_name, typed_name}
-use Rattle.c_grammar.specs.UnitRules.{member_of, member, members_rule, struct_of, types_rule, extern_of, extern_result, extern, scalar_param, struct_param, param, params_rule, Defined, defined, function_of, scalar_function, struct_function, void_function, plain_function, pointer_function, function, Item, a_struct, an_extern, an_object, a_function, rank, object_of, first_value, constant_object, Behind, behind_const, behind_star, some_pointer, same_pointer, named, behind_name, behind_scalar, behind_struct, scalar_item, struct_item, static_item, tagged, struct_or_function, hidden_function, at_stage}
+use Rattle.c_grammar.specs.Symbols.{Rule, Symbol, Tree, Side, left, right, pair, a_length, a_body, the_members, the_types, the_params, parens, squares, braces, new_line, semicolon, star, blank}
+use Rattle.c_grammar.specs.TypeRules.{name, base, scalar, tag, scalar_type, struct_pointer, not_to_const, to_const, pointer_name}
+use Rattle.c_grammar.specs.UnitRules.{member_of, member, members_rule, types_rule, extern_of, extern_result, extern, scalar_param, struct_param, param, params_rule, Defined, defined, function_of, scalar_function, struct_function, void_function, plain_function, function, Item, a_struct, an_extern, an_object, a_function, rank, object_of, first_value, constant_object, Behind, behind_const, some_pointer, same_pointer, named, behind_scalar, behind_struct, scalar_item, struct_item, static_item, tagged, struct_or_function, hidden_function, at_stage}
 use Rattle.c_grammar.proofs.Says.{Means, Is, Says, IfThere, text_if, m_token, m_map, m_sequence, m_choice, m_as, s_fixed, s_sequence, s_after, s_before, s_pair, s_map, s_as, s_optional, s_repeat}
-use Rattle.c_grammar.proofs.SaysTypes.{says_name, says_scalar, says_tag, says_base, says_value_type, says_held, says_held_pointer, says_length, says_pointer_name, says_typed_name}
-use Rattle.c_grammar.proofs.Meanings.{Meaning, Listed, SomeMembers}
+use Rattle.c_grammar.proofs.SaysTypes.{says_name, says_scalar, says_tag, says_base, says_value_type, says_held, says_held_pointer, says_pointer_name, says_typed_name}
+use Rattle.c_grammar.proofs.Meanings.{Meaning, SomeMembers}
 use Rattle.c_grammar.proofs.SaysExpressions.{m_parens, m_squares, m_braces}
 use Rattle.c_grammar.proofs.SaysLists.{m_separated, says_initializer}
 use Rattle.c_grammar.proofs.SaysStatements.{says_equals, indent_is}
@@ -54,7 +50,7 @@ module _ (L : (n : Symbol) → Language Piece (Tree n)) (inner : (n : Symbol) (x
       let first : Says 1 L (token {A = Piece} indentation Some) (λ _. Unit {0}) (λ _. codes "  ") = m_token (λ p v e. record { good = tt; is = indent_is 0 p v e }) in
       let index : Says 1 L (squares a_length) (λ n. n < 2 ^ 32) (λ n. 91 ∷ (decimal n ++ 93 ∷ [])) = m_squares 1 L inner a_length (Is (λ n. n < 2 ^ 32) (λ n. 91 ∷ (decimal n ++ 93 ∷ []))) (λ n t i. record { good = i.good; is = ap (λ z. 91 ∷ (z ++ 93 ∷ [])) i.is }) in
       let core : Says 1 L (sequence member_of base (after blank (sequence pair name (rules.optional (squares a_length))))) MemberInSubset (λ m. base_text m.base ++ (codes " " ++ (m.name ++ length_text m.length))) =
-          s_sequence member_of says_base (s_after s_fixed (s_pair says_name (s_as (s_optional index) length_says_so))) (λ b x i j. (record { name = j.0; base = i; length = j.1 }, refl)) in
+      s_sequence member_of says_base (s_after s_fixed (s_pair says_name (s_as (s_optional index) length_says_so))) (λ b x i j. (record { name = j.0; base = i; length = j.1 }, refl)) in
       s_as (s_after first (s_before core end_says)) (λ m i. (i, member_line (base_text m.base) m.name (length_text m.length)))
 
   pub says_members_rule : Means 1 L members_rule (Meaning the_members 1)
@@ -231,7 +227,7 @@ module _ (L : (n : Symbol) → Language Piece (Tree n)) (inner : (n : Symbol) (x
   says_defined =
       let params : Says 0 L (parens the_params) (All ParamInSubset) (λ ps. params_text (map param_text ps)) = m_parens 0 L inner the_params (Is (All ParamInSubset) (λ ps. params_text (map param_text ps))) (λ ps t i. record { good = i.good; is = i.is }) in
       let body : Says 0 L (braces a_body) StmtsInSubset (λ ss. 123 ∷ ((codes "\n" ++ stmts_text 1 ss) ++ 125 ∷ [])) =
-          m_braces 0 L inner a_body (Is StmtsInSubset (λ ss. 123 ∷ ((codes "\n" ++ stmts_text 1 ss) ++ 125 ∷ []))) (λ ss t i. record { good = i.good; is = ap (λ z. 123 ∷ (z ++ 125 ∷ [])) i.is }) in
+      m_braces 0 L inner a_body (Is StmtsInSubset (λ ss. 123 ∷ ((codes "\n" ++ stmts_text 1 ss) ++ 125 ∷ []))) (λ ss t i. record { good = i.good; is = ap (λ z. 123 ∷ (z ++ 125 ∷ [])) i.is }) in
       s_as (s_pair params (s_after s_fixed (s_before body s_fixed))) (λ d i. (i, ap (λ z. params_text (map param_text d.0) ++ (codes " " ++ z)) (body_line (stmts_text 1 d.1))))
 
   says_first_value : Says 0 L first_value InitInSubset (λ i. codes " = " ++ (init_text i ++ codes ";\n"))
@@ -263,14 +259,14 @@ module _ (L : (n : Symbol) → Language Piece (Tree n)) (inner : (n : Symbol) (x
   says_scalar_const : Says 0 L (behind_const some_pointer) BehindIn scalar_rest
   says_scalar_const =
       let function_behind : Means 0 L (rules.map left (sequence (λ x d. (some_pointer (to_const x), d)) (after star name) defined)) (λ y t. BehindIn y × (codes "const " ++ t ≡ scalar_rest y)) =
-          m_map left (m_sequence (λ x d. (some_pointer (to_const x), d)) (s_after s_fixed says_name) says_defined (λ x d t u a b. ((a.good, b.good), ap (λ z. codes "const " ++ (z ++ u)) a.is ∙ ap (λ z. codes "const " ++ ((codes "*" ++ x) ++ z)) b.is))) in
+      m_map left (m_sequence (λ x d. (some_pointer (to_const x), d)) (s_after s_fixed says_name) says_defined (λ x d t u a b. ((a.good, b.good), ap (λ z. codes "const " ++ (z ++ u)) a.is ∙ ap (λ z. codes "const " ++ ((codes "*" ++ x) ++ z)) b.is))) in
       m_sequence (λ _ y. y) s_fixed (m_sequence {Q = λ y t. BehindIn y × (codes "const" ++ t ≡ scalar_rest y)} (λ _ y. y) s_fixed (m_choice function_behind (m_map right says_constant_object)) (λ p y t u a b. (b.0, ap (λ z. codes "const" ++ (z ++ u)) a.is ∙ b.1)))
       (λ p y t u a b. record { good = b.0; is = ap (λ z. z ++ u) a.is ∙ b.1 })
 
   says_struct_const : Says 0 L (behind_const same_pointer) BehindIn struct_rest
   says_struct_const =
       let function_behind : Means 0 L (rules.map left (sequence (λ x d. (same_pointer (to_const x), d)) (after star name) defined)) (λ y t. BehindIn y × (codes "const " ++ t ≡ struct_rest y)) =
-          m_map left (m_sequence (λ x d. (same_pointer (to_const x), d)) (s_after s_fixed says_name) says_defined (λ x d t u a b. ((a.good, b.good), ap (λ z. codes "const " ++ (z ++ u)) a.is ∙ ap (λ z. codes "const " ++ ((codes "*" ++ x) ++ z)) b.is))) in
+      m_map left (m_sequence (λ x d. (same_pointer (to_const x), d)) (s_after s_fixed says_name) says_defined (λ x d t u a b. ((a.good, b.good), ap (λ z. codes "const " ++ (z ++ u)) a.is ∙ ap (λ z. codes "const " ++ ((codes "*" ++ x) ++ z)) b.is))) in
       m_sequence (λ _ y. y) s_fixed (m_sequence {Q = λ y t. BehindIn y × (codes "const" ++ t ≡ struct_rest y)} (λ _ y. y) s_fixed (m_choice function_behind (m_map right says_constant_object)) (λ p y t u a b. (b.0, ap (λ z. codes "const" ++ (z ++ u)) a.is ∙ b.1)))
       (λ p y t u a b. record { good = b.0; is = ap (λ z. z ++ u) a.is ∙ b.1 })
 
@@ -289,7 +285,7 @@ module _ (L : (n : Symbol) → Language Piece (Tree n)) (inner : (n : Symbol) (x
   unfolding static_item HiddenIs
   says_static_item s low =
       let one : Means 0 L (rules.map a_function (void_function true)) StaticIs =
-          m_map a_function (m_as (says_void_function true) (λ f t i. record { good = i.good.0; is = ap (λ z. codes "static " ++ z) i.is ∙ ap (λ h. storage_text h ++ core_text f) (sym i.good.1) ∙ core_is f; late = omega arith })) in
+      m_map a_function (m_as (says_void_function true) (λ f t i. record { good = i.good.0; is = ap (λ z. codes "static " ++ z) i.is ∙ ap (λ h. storage_text h ++ core_text f) (sym i.good.1) ∙ core_is f; late = omega arith })) in
       let two : Means 0 L (sequence scalar_item scalar (after blank behind_scalar)) StaticIs = m_sequence scalar_item says_scalar (s_after s_fixed says_behind_scalar) (λ s y t u i j. scalar_item_is s y (t ++ u) j.good (ap (λ z. z ++ u) i.is ∙ ap (λ z. scalar_text s ++ z) j.is)) in
       let three : Means 0 L (sequence struct_item tag (after blank behind_struct)) StaticIs = m_sequence struct_item says_tag (s_after s_fixed says_behind_struct) (λ x y t u i j. struct_item_is x y (t ++ u) i.good j.good (ap (λ z. z ++ u) i.is ∙ ap (λ z. (codes "struct " ++ x) ++ z) j.is)) in
       m_sequence {R = λ x t. StaticIsFrom x t} (λ _ x. x) s_fixed (m_sequence {P = Is (λ _. Unit {0}) (λ _. codes " ")} {R = StaticIs} (λ _ x. x) s_fixed (m_choice one (m_choice two three)) (λ p x t u i j. (j.good, ap (λ z. codes "static" ++ (z ++ u)) i.is ∙ j.is, j.late)))
@@ -302,8 +298,8 @@ module _ (L : (n : Symbol) → Language Piece (Tree n)) (inner : (n : Symbol) (x
       let types : Says 0 L (parens the_types) (All ValueInSubset) (λ ts. params_text (map type_text ts)) = m_parens 0 L inner the_types (Is (All ValueInSubset) (λ ts. params_text (map type_text ts))) (λ ts t i. record { good = i.good; is = i.is }) in
       let head : Says 0 L extern_result ExternResultInSubset type_text = m_choice (s_map (λ _. Void) s_fixed (λ p i. (tt, refl))) (s_map Value says_scalar (λ s i. (tt, refl))) in
       let core : Says 0 L (sequence extern_of extern_result (after blank (sequence pair name (before (parens the_types) (after semicolon new_line))))) ExternInSubset
-          (λ x. type_text x.result ++ (codes " " ++ (x.name ++ (params_text (map type_text x.params) ++ codes ";\n")))) =
-          s_sequence extern_of head (s_after s_fixed (s_pair says_name (s_before types end_says))) (λ t y i j. (record { name = j.0; params = j.1; result = i }, refl)) in
+      (λ x. type_text x.result ++ (codes " " ++ (x.name ++ (params_text (map type_text x.params) ++ codes ";\n")))) =
+      s_sequence extern_of head (s_after s_fixed (s_pair says_name (s_before types end_says))) (λ t y i j. (record { name = j.0; params = j.1; result = i }, refl)) in
       s_as (s_after s_fixed (s_after s_fixed core)) (λ x i. (i, plain (type_text x.result) x.name (params_text (map type_text x.params)) ∙ ap (λ z. line (codes "extern " ++ z ++ params_text (map type_text x.params) ++ codes ";")) (extern_typed x.result i.result x.name)))
     where
       plain : (t x p : List ℕ) → codes "extern" ++ (codes " " ++ (t ++ (codes " " ++ (x ++ (p ++ codes ";\n"))))) ≡ line (codes "extern " ++ (t ++ codes " " ++ x) ++ p ++ codes ";")
@@ -313,9 +309,9 @@ module _ (L : (n : Symbol) → Language Piece (Tree n)) (inner : (n : Symbol) (x
   unfolding HiddenIs
   says_struct_or_function =
       let members : Says 0 L (braces the_members) SomeMembers (λ ms. 123 ∷ ((codes "\n" ++ texts (map member_text ms)) ++ 125 ∷ [])) =
-          m_braces 0 L inner the_members (Is SomeMembers (λ ms. 123 ∷ ((codes "\n" ++ texts (map member_text ms)) ++ 125 ∷ []))) (λ ms t i. record { good = i.good; is = ap (λ z. 123 ∷ (z ++ 125 ∷ [])) i.is }) in
+      m_braces 0 L inner the_members (Is SomeMembers (λ ms. 123 ∷ ((codes "\n" ++ texts (map member_text ms)) ++ 125 ∷ []))) (λ ms t i. record { good = i.good; is = ap (λ z. 123 ∷ (z ++ 125 ∷ [])) i.is }) in
       let next : Says 0 L (choice (rules.map left (before (braces the_members) (after semicolon new_line))) (rules.map right (sequence pair pointer_name defined))) TaggedIn tagged_text =
-          m_choice (s_map left (s_before members end_says) (λ ms i. (i, refl))) (s_map right (s_pair says_pointer_name says_defined) (λ f i. (i, refl))) in
+      m_choice (s_map left (s_before members end_says) (λ ms i. (i, refl))) (s_map right (s_pair says_pointer_name says_defined) (λ f i. (i, refl))) in
       m_sequence tagged says_tag (s_after s_fixed next) (λ t y u v i j. tagged_is t y (u ++ v) i.good j.good (ap (λ z. z ++ v) i.is ∙ ap (λ z. (codes "struct " ++ t) ++ z) j.is))
 
   says_hidden_function : (s : ℕ) → s ≤ 3 → Means 0 L hidden_function (ItemIs s)

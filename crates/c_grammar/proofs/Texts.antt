@@ -1,7 +1,7 @@
 -- The text of a unit is spelled by the grammar as that unit, so that no text is that of two units.
 use Rattle.std.proofs.Common.{◌≡◌, ℕ, Bool, true, false, cond, List, [], ◌∷◌, refl, sym, ap, ◌∙◌, subst, if◌then◌else◌}
 use Rattle.std.specs.Prelude.{nat_eq}
-use Rattle.reading.specs.Row.{Entry, Row, tokens}
+use Rattle.reading.specs.Row.{Row, tokens}
 use Rattle.reading.specs.Exact.{Spelled}
 use Rattle.c_ast.specs.Syntax.{TranslationUnit}
 use Rattle.c_text.specs.Spelling.{unit_text}

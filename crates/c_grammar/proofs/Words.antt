@@ -1,11 +1,10 @@
 -- Names, numbers and types as pieces: of which kind they are, and what they give.
-use Rattle.std.proofs.Common.{◌≡◌, ℕ, zero, suc, ◌+◌, ◌*◌, ◌-◌, ◌^◌, ◌<◌, ◌≤◌, Bool, true, false, cond, not, ◌&&◌, List, [], ◌∷◌, ◌++◌, length, get_or, refl, sym, ap, ◌∙◌, subst, arith, if◌then◌else◌, Option, Some, None, decimal}
+use Rattle.std.proofs.Common.{◌≡◌, ℕ, zero, suc, ◌^◌, ◌<◌, ◌≤◌, Bool, true, false, cond, not, List, [], ◌∷◌, ◌++◌, length, get_or, refl, sym, ap, ◌∙◌, subst, arith, if◌then◌else◌, Some, None, decimal}
 use Rattle.std.specs.Prelude.{nat_eq, nat_lt, nat_le, ◌==◌, ◌||◌, is_some}
 use Rattle.std.specs.List.{list_all}
 use Rattle.std.proofs.lemmas.Bool.{and_from, and_parts, not_from_false, le-leb, leb-true, lt-ltb, lt-leb, ne_eqb}
-use Rattle.std.proofs.lemmas.Bool.Decides.{nat_tests}
 use Rattle.std.proofs.lemmas.Fmt.{digits_decimal, digits_value-decimal, decimal_nonempty, first_decimal, decimal_digit}
-use Rattle.std.proofs.lemmas.Str.Parse.{IsNumeralModel, IsDigitsTest, FoldsDigits, numerals_by_fold}
+use Rattle.std.proofs.lemmas.Str.Parse.{IsNumeralModel, IsDigitsTest, numerals_by_fold}
 use Rattle.std.proofs.lemmas.List.Folds.{list_all-append}
 use Rattle.c_ast.specs.declared.types.CScalar.{CScalar}
 use Rattle.c_ast.specs.declared.types.CScalar.TheVariants.{Truth, Int}
@@ -17,8 +16,8 @@ use Rattle.c_text.specs.TypeText.{scalar_text}
 use Rattle.c_text.specs.ExpressionText.{suffix_text}
 use Rattle.reading.proofs.Rows.{append_nil}
 use Rattle.grammars.specs.Grammar.{of_kind}
-use Rattle.c_grammar.specs.Pieces.{Piece, Word, Blanks, Byte}
-use Rattle.c_grammar.specs.Kinds.{lexicon, is_name, name_of, digits, behind_digits, value_behind, is_plain, with_suffix, suffix_of, word_number, number_of, length_of, scalar_of, is_whole, word_kind, name_word, number_word, scalar_word, word_scalar, place_in, keywords_used, other}
+use Rattle.c_grammar.specs.Pieces.{Word}
+use Rattle.c_grammar.specs.Kinds.{lexicon, is_name, name_of, digits, behind_digits, value_behind, is_plain, suffix_of, word_number, number_of, length_of, scalar_of, is_whole, name_word, number_word, scalar_word, word_scalar, place_in, keywords_used, other}
 
 -- ---- names
 
@@ -28,7 +27,7 @@ name_piece d (b ∷ w) h =
     let short : nat_le (length (b ∷ w)) 31 ≡ true = le-leb (length (b ∷ w)) 31 h.short in
     let free : not (is_reserved (b ∷ w)) ≡ true = not_from_false (is_reserved (b ∷ w)) h.free in
     let named : is_name (b ∷ w) ≡ true =
-        and_from (begins_as_identifier (b ∷ w)) _ h.begins (and_from (list_all is_identifier_byte (b ∷ w)) _ h.spelled (and_from (nat_le (length (b ∷ w)) 31) (not (is_reserved (b ∷ w))) short free)) in
+    and_from (begins_as_identifier (b ∷ w)) _ h.begins (and_from (list_all is_identifier_byte (b ∷ w)) _ h.spelled (and_from (nat_le (length (b ∷ w)) 31) (not (is_reserved (b ∷ w))) short free)) in
     by_name d (b ∷ w) (list_all is_identifier_byte (b ∷ w)) (begins_as_identifier (b ∷ w)) (is_name (b ∷ w)) (if is_some (word_scalar (b ∷ w)) then scalar_word else place_in 1 keywords_used (b ∷ w)) (if is_some (word_number (b ∷ w)) then number_word else other) h.spelled h.begins named
   where
     by_name : (d : ℕ) (w : List ℕ) (whole begins named : Bool) (j k : ℕ) → whole ≡ true → begins ≡ true → named ≡ true
@@ -118,11 +117,6 @@ all_identifier [] e = refl
 all_identifier (b ∷ ds) e =
     let parts = and_parts (is_digit b) (list_all is_digit ds) e in
     and_from (is_identifier_byte b) (list_all is_identifier_byte ds) (digit_is_identifier b parts.0) (all_identifier ds parts.1)
-
-no_zero : (ds : List ℕ) → 0 < length ds → (length ds ≤ 1 → ⊥) → (get_or ds 0 0 ≡ 48 → ⊥) → is_plain ds ≡ true
-no_zero [] some long lead = absurd (omega arith)
-no_zero (b ∷ []) some long lead = refl
-no_zero (b ∷ c ∷ ds) some long lead = not_from_false (b == 48) (ne_eqb b 48 lead)
 
 decimal_plain : (n : ℕ) → n < 2 ^ 64 → is_plain (decimal n) ≡ true
 decimal_plain zero small = subst (λ w. is_plain w ≡ true) (sym (decimal_digit 0 (omega arith))) refl

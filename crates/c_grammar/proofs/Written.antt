@@ -1,16 +1,14 @@
 -- Rows that spell a value, put together rule by rule, with the text that their pieces make.
-use Rattle.std.proofs.Common.{◌≡◌, ℕ, zero, suc, List, [], ◌∷◌, ◌++◌, map, inl, inr, refl, sym, ap, ◌∙◌, subst, append_assoc, Option, Some}
+use Rattle.std.proofs.Common.{◌≡◌, ℕ, suc, List, [], ◌∷◌, ◌++◌, inl, inr, refl, sym, ap, ◌∙◌, subst, append_assoc, Option, Some}
 use Rattle.reading.specs.Row.{Entry, Row, tokens}
-use Rattle.reading.specs.Language.{Many}
 use Rattle.reading.proofs.Rows.{append_nil}
-use Rattle.c_text.specs.TypeText.{listed}
 use Rattle.grammars.specs.Grammar as rules
 use Rattle.grammars.specs.Grammar.{of_kind, stage, token, empty, sequence, split, choice, repeat, stages, brackets, after, before, separated}
-use Rattle.grammars.specs.Spelled.{InStages, SpellsWith, Spells}
+use Rattle.grammars.specs.Spelled.{SpellsWith, Spells}
 use Rattle.grammars.proofs.Levels.{to_symbol}
-use Rattle.c_grammar.specs.Pieces.{Piece, Word, Blanks, Byte, piece_text, joined}
+use Rattle.c_grammar.specs.Pieces.{Piece, Byte, piece_text, joined}
 use Rattle.c_grammar.specs.Kinds.{lexicon}
-use Rattle.c_grammar.specs.Symbols.{Symbol, Tree, Rule, comma, parens, squares, braces}
+use Rattle.c_grammar.specs.Symbols.{Symbol, Tree, Rule, parens, squares, braces}
 use Rattle.c_grammar.specs.Subset.{grammar}
 
 -- some row of the rule at this depth spells the value, and its pieces make the text

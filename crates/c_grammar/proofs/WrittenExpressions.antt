@@ -1,30 +1,27 @@
 -- Expressions, places, initializers and calls of the subset are spelled by their texts.
-use Rattle.std.proofs.Common.{◌≡◌, ◌≢◌, ℕ, zero, suc, ◌^◌, ◌<◌, Bool, true, false, List, [], ◌∷◌, ◌++◌, map, refl, sym, ap, ◌∙◌, subst, append_assoc, arith, if◌then◌else◌, Option, Some, None, codes, decimal}
-use Rattle.std.proofs.lemmas.Fmt.{decimal_digit}
+use Rattle.std.proofs.Common.{◌≡◌, ℕ, suc, List, [], ◌∷◌, ◌++◌, refl, sym, ap, ◌∙◌, subst, append_assoc, if◌then◌else◌, Some, None, codes, decimal}
 use Rattle.reading.specs.Row.{Row, tokens}
 use Rattle.reading.specs.Language.{Language, Many}
 use Rattle.reading.proofs.Rows.{append_nil}
-use Rattle.c_ast.specs.declared.expr.Suffix.TheVariants.{Plain, U, Ll, Ull}
 use Rattle.c_ast.specs.declared.expr.CUnary.{CUnary}
 use Rattle.c_ast.specs.declared.expr.CUnary.TheVariants.{Neg, Flip, Not}
 use Rattle.c_ast.specs.declared.expr.CBinary.{CBinary}
 use Rattle.c_ast.specs.declared.expr.CBinary.TheVariants.{Add, Sub, Mul, Div, Rem, And, Or, Xor, Shl, Shr, Eq, Ne, Lt, Le, Gt, Ge, AndAlso, OrElse}
-use Rattle.c_ast.specs.Syntax.{Name, Expr, Number, Read, Address, Unary, Binary, Cast, Cond, Place, Var, At, Member, Element, Init, One, Zero, Many as ManyInits, Inits, NoInits, MoreInits}
+use Rattle.c_ast.specs.Syntax.{Name, Expr, Number, Read, Address, Unary, Binary, Cast, Cond, Place, Var, At, Member, Element}
 use Rattle.c_text.specs.Identifiers.{IsIdentifier}
-use Rattle.c_text.specs.TypeText.{type_text, listed}
-use Rattle.c_text.specs.ExpressionText.{suffix_text, unary_text, binary_text, expr_text, place_text, init_text, init_texts}
-use Rattle.c_text.specs.Subset.{ValueInSubset, ExprInSubset, PlaceInSubset, InitInSubset, InitsInSubset, IsNotZero}
+use Rattle.c_text.specs.TypeText.{type_text}
+use Rattle.c_text.specs.ExpressionText.{suffix_text, unary_text, binary_text, expr_text, place_text}
+use Rattle.c_text.specs.Subset.{ValueInSubset, ExprInSubset, PlaceInSubset}
 use Rattle.c_ast.specs.declared.types.CType.{CType}
 use Rattle.grammars.specs.Grammar.{sequence, repeat}
 use Rattle.grammars.specs.Spelled.{SpellsWith, Spells}
-use Rattle.c_grammar.specs.Pieces.{Piece, Word, Blanks, Byte, joined}
+use Rattle.c_grammar.specs.Pieces.{Word, Byte, joined}
 use Rattle.c_grammar.specs.Kinds.{lexicon}
 use Rattle.c_grammar.specs.Subset.{grammar}
-use Rattle.c_grammar.specs.Symbols.{Rule, an_expression, a_pointer, an_inner, an_inside, parens, squares, Side, left, right, pair, type_inside, pointer_inside, value_inside_it, star}
-use Rattle.c_grammar.specs.TypeRules.{name}
-use Rattle.c_grammar.specs.ExpressionRules.{Step, step_on, steps_on, named_place, place_behind, step, place_of_name, place, number_expr, number, operand, in_parens, expression, binary_operator, Tail, with_tail, tail, value_inside, pointer_rule, BehindInner, BehindInside, behind_inner, inside_way, inside_value, behind_inside}
+use Rattle.c_grammar.specs.Symbols.{Rule, an_expression, a_pointer, an_inner, an_inside, parens, squares, left, right, pair, type_inside, pointer_inside, value_inside_it}
+use Rattle.c_grammar.specs.ExpressionRules.{Step, step_on, steps_on, named_place, place_behind, step, place, number_expr, number, operand, in_parens, expression, binary_operator, Tail, with_tail, tail, value_inside, pointer_rule, BehindInner, BehindInside, behind_inner, inside_way, inside_value, behind_inside}
 use Rattle.c_grammar.proofs.Words.{number_piece}
-use Rattle.c_grammar.proofs.Written.{Written, as_text, as_value, one_piece, nothing, mapped, in_sequence, ◌then◌, ended, first_of, second_of, by_way, none, more, within_parens, within_squares, within_braces, joined_append}
+use Rattle.c_grammar.proofs.Written.{Written, as_text, as_value, one_piece, nothing, mapped, in_sequence, ◌then◌, ended, first_of, second_of, by_way, none, more, within_parens, within_squares, joined_append}
 use Rattle.c_grammar.proofs.WrittenTypes.{a_blank, a_star, name_written, value_type_written}
 
 -- ---- operators
@@ -97,7 +94,7 @@ with_first {d} {a} {x} {s} {t} (pointed p steps u z same w v is) y =
     let one : Written d (parens an_inside) (pointer_inside p) (40 ∷ (u ++ 41 ∷ [])) = within_parens {n = an_inside} (second_of (first_of (mapped pointer_inside w))) in
     let both : Written d (sequence pair (repeat step) tail) (steps, x) (z ++ t) = in_sequence pair v y in
     let all : Written d value_inside (with_tail (Read (place_behind p steps)) x) ((40 ∷ (u ++ 41 ∷ [])) ++ (z ++ t)) =
-        second_of (second_of (second_of (by_way {Y = BehindInside} {last = 2} {way = inside_way} {f = inside_value} {rest = behind_inside} (pointer_inside p) (steps, x) one both))) in
+    second_of (second_of (second_of (by_way {Y = BehindInside} {last = 2} {way = inside_way} {f = inside_value} {rest = behind_inside} (pointer_inside p) (steps, x) one both))) in
     as_value (as_text all (sym (append_assoc (40 ∷ (u ++ 41 ∷ [])) z t) ∙ ap (λ z. z ++ t) is)) (ap (λ e. with_tail e x) same)
 
 cast_written : {d : ℕ} (t : CType) (e : Expr) (s : List ℕ) → ValueInSubset t → Written d expression e s → Written d value_inside (Cast t e) ((40 ∷ (type_text t ++ 41 ∷ [])) ++ s)

@@ -1,16 +1,16 @@
 -- Lists with commas, initializers and calls of the subset are spelled by their texts.
-use Rattle.std.proofs.Common.{◌≡◌, ◌≢◌, ℕ, zero, suc, Bool, true, false, List, [], ◌∷◌, ◌++◌, map, All, refl, sym, ap, ◌∙◌, append_assoc, arith, if◌then◌else◌, codes, decimal}
+use Rattle.std.proofs.Common.{◌≡◌, ℕ, zero, suc, Bool, true, false, List, [], ◌∷◌, ◌++◌, map, All, refl, sym, ap, ◌∙◌, append_assoc, arith, if◌then◌else◌, codes, decimal}
 use Rattle.std.proofs.lemmas.List.Elements.{All-head, All-tail}
 use Rattle.std.proofs.lemmas.Fmt.{decimal_digit}
 use Rattle.reading.proofs.Rows.{append_nil}
 use Rattle.c_ast.specs.declared.expr.Suffix.{Suffix}
 use Rattle.c_ast.specs.declared.expr.Suffix.TheVariants.{Plain, U, Ll, Ull}
-use Rattle.c_ast.specs.Syntax.{Name, Expr, Number, Read, Address, Unary, Binary, Cast, Cond, Init, One, Zero, Many, Inits, NoInits, MoreInits, FunctionCall}
+use Rattle.c_ast.specs.Syntax.{Expr, Number, Read, Address, Unary, Binary, Cast, Cond, Init, One, Zero, Many, Inits, NoInits, MoreInits}
 use Rattle.c_text.specs.TypeText.{listed}
 use Rattle.c_text.specs.ExpressionText.{expr_text, init_text, init_texts}
 use Rattle.c_text.specs.Subset.{ExprInSubset, InitInSubset, InitsInSubset, IsNotZero}
 use Rattle.grammars.specs.Grammar.{repeat, separated, after}
-use Rattle.c_grammar.specs.Pieces.{Word, Blanks, Byte}
+use Rattle.c_grammar.specs.Pieces.{Byte}
 use Rattle.c_grammar.specs.Symbols.{Rule, comma, parens, braces, arguments, initializers}
 use Rattle.c_grammar.specs.ExpressionRules.{expression, initializer, inits_of, is_zero_number, is_zero_expr, is_zero_init, is_zero, braced, arguments_rule}
 use Rattle.c_grammar.proofs.Written.{Written, as_text, as_value, one_piece, nothing, mapped, in_sequence, ◌then◌, first_of, second_of, none, more, within_parens, within_braces}
@@ -103,7 +103,7 @@ many_written : {d : ℕ} (i : Init) (is : Inits) → IsNotZero (MoreInits i is) 
 many_written {d} i is other v w =
     let inner : Written d (braces initializers) (braced (i ∷ list_of is)) (123 ∷ (listed (init_texts (MoreInits i is)) ++ 125 ∷ [])) = within_braces {n = initializers} (mapped braced (in_list (init_texts is) v w)) in
     let same : braced (i ∷ list_of is) ≡ Many (MoreInits i is) =
-        ap (λ b. if b then Zero else Many (inits_of (i ∷ list_of is))) (not_zero i is other) ∙ ap (λ x. Many (MoreInits i x)) (inits_back is) in
+    ap (λ b. if b then Zero else Many (inits_of (i ∷ list_of is))) (not_zero i is other) ∙ ap (λ x. Many (MoreInits i x)) (inits_back is) in
     second_of (as_value inner same)
 
 mutual

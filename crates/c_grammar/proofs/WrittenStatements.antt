@@ -1,5 +1,5 @@
 -- Statements and declarations of the subset are spelled by their texts.
-use Rattle.std.proofs.Common.{◌≡◌, cond, ℕ, zero, suc, ◌+◌, ◌*◌, Bool, true, false, List, [], ◌∷◌, ◌++◌, map, replicate, refl, sym, ap, ◌∙◌, subst, append_assoc, arith, Option, Some, None, codes}
+use Rattle.std.proofs.Common.{◌≡◌, cond, ℕ, suc, ◌+◌, ◌*◌, Bool, true, false, List, [], ◌∷◌, ◌++◌, replicate, refl, sym, ap, ◌∙◌, append_assoc, arith, Option, Some, None, codes}
 use Rattle.reading.proofs.Rows.{append_nil}
 use Rattle.c_ast.specs.declared.types.CScalar.{CScalar}
 use Rattle.c_ast.specs.declared.types.CBase.{CBase}
@@ -8,21 +8,21 @@ use Rattle.c_ast.specs.declared.types.CType.{CType}
 use Rattle.c_ast.specs.declared.types.CType.TheVariants.{Void, Value, Pointer}
 use Rattle.c_ast.specs.Syntax.{Name, Expr, Place, Init, FunctionCall, Stmt, Const, ConstCall, Object, Assign, If, IfElse, Forever, Break, Return, Block, Call, Stmts, Nil, Cons}
 use Rattle.c_text.specs.Identifiers.{IsIdentifier}
-use Rattle.c_text.specs.TypeText.{line, scalar_text, base_text, const_text, object_text}
-use Rattle.c_text.specs.ExpressionText.{expr_text, place_text, init_text, call_text}
+use Rattle.c_text.specs.TypeText.{line, scalar_text, const_text, object_text}
+use Rattle.c_text.specs.ExpressionText.{expr_text, place_text, call_text}
 use Rattle.c_text.specs.StatementText.{indent, first_value_text, return_text, block_text, stmt_text, stmts_text}
-use Rattle.c_text.specs.Subset.{BaseInSubset, ValueInSubset, ExprInSubset, PlaceInSubset, InitInSubset, CallInSubset, FirstValueInSubset, ReturnInSubset, StmtInSubset, StmtsInSubset}
+use Rattle.c_text.specs.Subset.{BaseInSubset, ValueInSubset, ExprInSubset, PlaceInSubset, CallInSubset, FirstValueInSubset, ReturnInSubset, StmtInSubset, StmtsInSubset}
 use Rattle.grammars.specs.Grammar.{token, repeat}
 use Rattle.c_grammar.specs.Pieces.{Piece, Word, Blanks, Byte}
 use Rattle.c_grammar.specs.Kinds.{line_blanks, closing_blanks, indentation, outdentation}
-use Rattle.c_grammar.specs.Symbols.{Rule, Side, left, right, pair, an_expression, a_pointer, arguments, forever, a_block, parens, new_line, semicolon}
+use Rattle.c_grammar.specs.Symbols.{Rule, Side, left, right, pair, an_expression, a_pointer, forever, a_block, parens}
 use Rattle.c_grammar.specs.TypeRules.{scalar_type, struct_pointer, not_to_const, to_const, some_pointer, no_pointer, held, held_pointer}
-use Rattle.c_grammar.specs.ExpressionRules.{Step, named_place, place_behind, step, expression, initializer}
-use Rattle.c_grammar.specs.StatementRules.{equals, call_of, named_value, value_or_call, held_as, declared_scalar, declared_struct, object, declaration, named_statement, pointed_statement, simple, block, if_with, condition, otherwise, statement, stmts_of, statement_line, lines, block_rule}
+use Rattle.c_grammar.specs.ExpressionRules.{expression}
+use Rattle.c_grammar.specs.StatementRules.{equals, named_value, value_or_call, held_as, declared_scalar, declared_struct, object, declaration, named_statement, pointed_statement, simple, block, if_with, condition, statement, stmts_of, statement_line, block_rule}
 use Rattle.c_grammar.proofs.Checked.{indent_kind, outdent_kind}
 use Rattle.c_grammar.proofs.Written.{Written, as_text, as_value, one_piece, nothing, mapped, in_sequence, ◌then◌, ended, first_of, second_of, none, more, within_parens, within_braces}
 use Rattle.c_grammar.proofs.WrittenTypes.{a_blank, a_star, name_written, scalar_written, tag_written, const_name_written, a_const}
-use Rattle.c_grammar.proofs.WrittenExpressions.{Form, numbered, named_first, enclosed, pointed, expression_of, enclosed_written, pointed_written, form_of, PlaceForm, named, behind, place_form, expression_written}
+use Rattle.c_grammar.proofs.WrittenExpressions.{Form, numbered, named_first, enclosed, pointed, enclosed_written, pointed_written, form_of, PlaceForm, named, behind, place_form, expression_written}
 use Rattle.c_grammar.proofs.WrittenLists.{arguments_written, init_written}
 
 pub equals_written : {A : Type 0} {d : ℕ} {p : Rule A} {a : A} {t : List ℕ} → Written d p a t → Written d (equals p) a (codes " = " ++ t)

@@ -1,5 +1,5 @@
 -- Types of the subset are spelled by their texts, and so are names with their types.
-use Rattle.std.proofs.Common.{◌≡◌, ℕ, suc, Bool, true, false, List, [], ◌∷◌, ◌++◌, refl, append_assoc, Option, Some, None, codes}
+use Rattle.std.proofs.Common.{◌≡◌, ℕ, Bool, true, false, List, ◌++◌, refl, append_assoc, Some, codes}
 use Rattle.reading.proofs.Rows.{append_nil}
 use Rattle.c_ast.specs.declared.types.CScalar.{CScalar}
 use Rattle.c_ast.specs.declared.types.CBase.{CBase}
@@ -8,11 +8,11 @@ use Rattle.c_ast.specs.declared.types.CType.{CType}
 use Rattle.c_ast.specs.declared.types.CType.TheVariants.{Void, Value, Pointer}
 use Rattle.c_ast.specs.Syntax.{Name}
 use Rattle.c_text.specs.Identifiers.{IsIdentifier}
-use Rattle.c_text.specs.TypeText.{scalar_text, base_text, star_text, type_text, gap_text, typed_text, const_text}
+use Rattle.c_text.specs.TypeText.{scalar_text, base_text, star_text, type_text}
 use Rattle.c_text.specs.Subset.{BaseInSubset, ValueInSubset}
-use Rattle.c_grammar.specs.Pieces.{Piece, Word, Blanks, Byte}
-use Rattle.c_grammar.specs.Symbols.{blank, star, word_struct, word_const}
-use Rattle.c_grammar.specs.TypeRules.{name, scalar, tag, base, scalar_type, struct_pointer, pointer, value_type, not_to_const, to_const, some_pointer, no_pointer, const_name, held_pointer, held, pointer_name, typed_name}
+use Rattle.c_grammar.specs.Pieces.{Word, Blanks, Byte}
+use Rattle.c_grammar.specs.Symbols.{blank, star, word_const}
+use Rattle.c_grammar.specs.TypeRules.{name, scalar, tag, base, scalar_type, struct_pointer, pointer, value_type, not_to_const, to_const, const_name, held_pointer}
 use Rattle.c_grammar.proofs.Words.{name_piece, scalar_piece}
 use Rattle.c_grammar.proofs.Written.{Written, as_text, one_piece, nothing, mapped, in_sequence, ◌then◌, first_of, second_of}
 

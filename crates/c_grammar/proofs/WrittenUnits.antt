@@ -1,5 +1,5 @@
 -- Structs, externs, objects, functions and units of the subset are spelled by their texts.
-use Rattle.std.proofs.Common.{◌≡◌, ◌≢◌, cond, ℕ, zero, suc, ◌+◌, ◌*◌, ◌≤◌, Bool, true, false, List, [], ◌∷◌, ◌++◌, map, replicate, All, refl, sym, ap, ◌∙◌, subst, append_assoc, arith, if◌then◌else◌, Option, Some, None, codes, decimal}
+use Rattle.std.proofs.Common.{◌≡◌, ◌≢◌, ℕ, zero, suc, ◌≤◌, Bool, true, false, List, [], ◌∷◌, ◌++◌, map, All, refl, sym, ap, ◌∙◌, subst, append_assoc, arith, if◌then◌else◌, Option, Some, None, codes, decimal}
 use Rattle.std.proofs.lemmas.List.Elements.{All-head, All-tail}
 use Rattle.reading.specs.Row.{Row, tokens}
 use Rattle.reading.proofs.Rows.{append_nil}
@@ -12,28 +12,28 @@ use Rattle.c_ast.specs.declared.unit.CMember.{CMember}
 use Rattle.c_ast.specs.declared.unit.CStruct.{CStruct}
 use Rattle.c_ast.specs.declared.unit.CExtern.{CExtern}
 use Rattle.c_ast.specs.declared.unit.CParam.{CParam}
-use Rattle.c_ast.specs.Syntax.{Name, Init, Stmts, FileObject, Function, TranslationUnit}
+use Rattle.c_ast.specs.Syntax.{Name, Init, FileObject, Function, TranslationUnit}
 use Rattle.c_text.specs.Identifiers.{IsIdentifier}
-use Rattle.c_text.specs.TypeText.{line, listed, texts, scalar_text, base_text, type_text, typed_text, const_text, object_text}
+use Rattle.c_text.specs.TypeText.{line, listed, texts, scalar_text, base_text, type_text, typed_text, const_text}
 use Rattle.c_text.specs.ExpressionText.{init_text}
 use Rattle.c_text.specs.StatementText.{block_text, stmts_text}
-use Rattle.c_text.specs.Spelling.{length_text, member_text, struct_text, params_text, extern_text, base_const_text, file_object_text, storage_text, param_text, function_text, fixed_text, head_text, unit_text}
-use Rattle.c_text.specs.Subset.{BaseInSubset, ValueInSubset, ResultInSubset, ExternResultInSubset, InitInSubset, StmtsInSubset, LengthInSubset, MemberInSubset, StructInSubset, ExternInSubset, ObjectInSubset, ParamInSubset, FunctionInSubset, InSubset}
+use Rattle.c_text.specs.Spelling.{length_text, member_text, struct_text, params_text, extern_text, base_const_text, file_object_text, storage_text, param_text, function_text, fixed_text, unit_text}
+use Rattle.c_text.specs.Subset.{BaseInSubset, ValueInSubset, ResultInSubset, ExternResultInSubset, InitInSubset, LengthInSubset, MemberInSubset, StructInSubset, ExternInSubset, ObjectInSubset, ParamInSubset, FunctionInSubset, InSubset}
 use Rattle.grammars.specs.Grammar as rules
 use Rattle.grammars.specs.Grammar.{of_kind, token, sequence, repeat, stage, stages}
 use Rattle.grammars.specs.Spelled.{InStages, SpellsWith, Spells}
 use Rattle.c_grammar.specs.Pieces.{Piece, Word, Blanks, Byte, joined}
 use Rattle.c_grammar.specs.Kinds.{lexicon, exactly, name_word}
-use Rattle.c_grammar.specs.Symbols.{Rule, Symbol, Side, left, right, pair, a_length, a_body, the_members, the_types, the_params, stop_params, parens, squares, braces, new_line, semicolon}
+use Rattle.c_grammar.specs.Symbols.{left, right, pair, a_length, a_body, the_members, the_types, the_params, stop_params, parens, squares, braces, new_line, semicolon}
 use Rattle.c_grammar.specs.Subset.{grammar}
 use Rattle.c_grammar.specs.TypeRules.{scalar_type, struct_pointer, not_to_const, to_const, some_pointer as some_name_pointer, no_pointer, pointer_name, typed_name}
 use Rattle.c_grammar.specs.StatementRules.{stmts_of, lines}
-use Rattle.c_grammar.specs.UnitRules.{member_of, member, members_rule, struct_of, types_rule, extern_of, extern_result, extern, scalar_param, struct_param, param, params_rule, Defined, defined, function_of, scalar_function, struct_function, void_function, plain_function, pointer_function, function, Item, a_struct, an_extern, an_object, a_function, rank, object_of, first_value, constant_object, behind_const, behind_star, some_pointer, same_pointer, named, behind_name, scalar_item, struct_item, static_item, tagged, struct_or_function, hidden_function, at_stage, items, included, fixed_lines, structs_in, externs_in, objects_in, functions_in, unit_of, unit_rule}
+use Rattle.c_grammar.specs.UnitRules.{member_of, member, members_rule, types_rule, extern_of, extern_result, extern, scalar_param, struct_param, param, params_rule, Defined, defined, function_of, scalar_function, struct_function, plain_function, function, Item, a_struct, an_extern, an_object, a_function, rank, object_of, first_value, some_pointer, same_pointer, named, scalar_item, struct_item, static_item, tagged, struct_or_function, at_stage, items, included, fixed_lines, structs_in, externs_in, objects_in, functions_in, unit_of, unit_rule}
 use Rattle.c_grammar.proofs.Words.{length_piece}
 use Rattle.c_grammar.proofs.Written.{Written, as_text, as_value, one_piece, nothing, mapped, in_sequence, ◌then◌, ended, first_of, second_of, none, more, within_parens, within_squares, within_braces, joined_append}
 use Rattle.c_grammar.proofs.WrittenTypes.{a_blank, a_star, a_const, name_written, scalar_written, tag_written, base_written, value_type_written}
 use Rattle.c_grammar.proofs.WrittenLists.{list_written, init_written}
-use Rattle.c_grammar.proofs.WrittenStatements.{equals_written, held_text, held_written, held_pointer_written, scalar_const_text, struct_const_text, stmt_list, stmts_back, stmts_written}
+use Rattle.c_grammar.proofs.WrittenStatements.{equals_written, held_written, held_pointer_written, scalar_const_text, struct_const_text, stmt_list, stmts_back, stmts_written}
 
 end_of_line : {d : ℕ} → Written d (rules.after semicolon new_line) (Byte 10) (codes ";\n")
 end_of_line = one_piece (Byte 59) refl then one_piece (Byte 10) refl
@@ -353,13 +353,13 @@ unit_again u =
     let os = map an_object u.objects ++ fs in
     let xs = map an_extern u.externs ++ os in
     let structs : structs_in (all_items u) ≡ u.structs =
-        found_again structs_in a_struct (λ a more. refl) u.structs xs ∙ ap (λ z. u.structs ++ z) (passed_over structs_in an_extern (λ a more. refl) u.externs os ∙ passed_over structs_in an_object (λ a more. refl) u.objects fs ∙ passed_over structs_in a_function (λ a more. refl) u.functions []) ∙ append_nil u.structs in
+    found_again structs_in a_struct (λ a more. refl) u.structs xs ∙ ap (λ z. u.structs ++ z) (passed_over structs_in an_extern (λ a more. refl) u.externs os ∙ passed_over structs_in an_object (λ a more. refl) u.objects fs ∙ passed_over structs_in a_function (λ a more. refl) u.functions []) ∙ append_nil u.structs in
     let externs : externs_in (all_items u) ≡ u.externs =
-        passed_over externs_in a_struct (λ a more. refl) u.structs xs ∙ found_again externs_in an_extern (λ a more. refl) u.externs os ∙ ap (λ z. u.externs ++ z) (passed_over externs_in an_object (λ a more. refl) u.objects fs ∙ passed_over externs_in a_function (λ a more. refl) u.functions []) ∙ append_nil u.externs in
+    passed_over externs_in a_struct (λ a more. refl) u.structs xs ∙ found_again externs_in an_extern (λ a more. refl) u.externs os ∙ ap (λ z. u.externs ++ z) (passed_over externs_in an_object (λ a more. refl) u.objects fs ∙ passed_over externs_in a_function (λ a more. refl) u.functions []) ∙ append_nil u.externs in
     let objects : objects_in (all_items u) ≡ u.objects =
-        passed_over objects_in a_struct (λ a more. refl) u.structs xs ∙ passed_over objects_in an_extern (λ a more. refl) u.externs os ∙ found_again objects_in an_object (λ a more. refl) u.objects fs ∙ ap (λ z. u.objects ++ z) (passed_over objects_in a_function (λ a more. refl) u.functions []) ∙ append_nil u.objects in
+    passed_over objects_in a_struct (λ a more. refl) u.structs xs ∙ passed_over objects_in an_extern (λ a more. refl) u.externs os ∙ found_again objects_in an_object (λ a more. refl) u.objects fs ∙ ap (λ z. u.objects ++ z) (passed_over objects_in a_function (λ a more. refl) u.functions []) ∙ append_nil u.objects in
     let functions : functions_in (all_items u) ≡ u.functions =
-        passed_over functions_in a_struct (λ a more. refl) u.structs xs ∙ passed_over functions_in an_extern (λ a more. refl) u.externs os ∙ passed_over functions_in an_object (λ a more. refl) u.objects fs ∙ found_again functions_in a_function (λ a more. refl) u.functions [] ∙ append_nil u.functions in
+    passed_over functions_in a_struct (λ a more. refl) u.structs xs ∙ passed_over functions_in an_extern (λ a more. refl) u.externs os ∙ passed_over functions_in an_object (λ a more. refl) u.objects fs ∙ found_again functions_in a_function (λ a more. refl) u.functions [] ∙ append_nil u.functions in
     λ i. record { structs = structs i; externs = externs i; objects = objects i; functions = functions i }
 
 -- ---- units
@@ -379,14 +379,14 @@ fixed_written =
 items_written : (u : TranslationUnit) → InSubset u → Staged 0 (all_items u) (texts (map struct_text u.structs) ++ (texts (map extern_text u.externs) ++ (texts (map file_object_text u.objects) ++ (texts (map function_text u.functions) ++ []))))
 items_written u is =
     let functions : (k : ℕ) → Staged k (map a_function u.functions ++ []) (texts (map function_text u.functions) ++ []) = λ k.
-        subst (λ xs. Staged k xs (texts (map function_text u.functions) ++ [])) (sym (append_nil (map a_function u.functions))) (same_staged (functions_from u.functions is.functions k) (sym (append_nil (texts (map function_text u.functions))))) in
+    subst (λ xs. Staged k xs (texts (map function_text u.functions) ++ [])) (sym (append_nil (map a_function u.functions))) (same_staged (functions_from u.functions is.functions k) (sym (append_nil (texts (map function_text u.functions))))) in
     structs_from (λ k low. externs_from (λ j less. objects_from functions u.objects is.objects j less) u.externs is.externs k low) u.structs is.structs
 
 pub unit_written : (u : TranslationUnit) → InSubset u → Written 0 unit_rule u (unit_text u)
 unit_written u is =
     let w = items_written u is in
     let list : Written 0 items (all_items u) (texts (map struct_text u.structs) ++ (texts (map extern_text u.externs) ++ (texts (map file_object_text u.objects) ++ (texts (map function_text u.functions) ++ [])))) =
-        record { row = w.row; spelled = w.spelled; makes = w.makes } in
+    record { row = w.row; spelled = w.spelled; makes = w.makes } in
     as_value (as_text (fixed_written then mapped unit_of list) (plain fixed_text (texts (map struct_text u.structs)) (texts (map extern_text u.externs)) (texts (map file_object_text u.objects)) (texts (map function_text u.functions)))) (unit_again u)
   where
     plain : (a b c e f : List ℕ) → a ++ (b ++ (c ++ (e ++ (f ++ [])))) ≡ (a ++ b ++ c ++ e) ++ f

@@ -1,7 +1,6 @@
 -- Expressions, places, calls and initializers of the C subset. What begins with `(` is read up to what stands in it before it is
 -- known what it is: `(*E)`, `(&L)`, `(-E)`, `((S)E)`, `(E op E)`, `(E ? E : E)`.
 use Rattle.std.specs.Prelude.{ℕ, zero, suc, ⊤, Bool, true, false, List, [], ◌∷◌, Option, Some, None, if◌then◌else◌}
-use Rattle.c_ast.specs.declared.types.CType.{CType}
 use Rattle.c_ast.specs.declared.expr.Suffix.{Suffix}
 use Rattle.c_ast.specs.declared.expr.Suffix.TheVariants.{Plain}
 use Rattle.c_ast.specs.declared.expr.CUnary.TheVariants.{Neg, Flip, Not}
@@ -10,7 +9,7 @@ use Rattle.c_ast.specs.declared.expr.CBinary.TheVariants.{Add, Sub, Mul, Div, Re
 use Rattle.c_ast.specs.Syntax.{Name, Expr, Number, Read, Address, Unary, Binary, Cast, Cond, Place, Var, At, Member, Element, Init, One, Zero, Many, Inits, NoInits, MoreInits}
 use Rattle.grammars.specs.Grammar.{token, empty, map, sequence, split, stage, choice, repeat, after, before, optional, separated}
 use Rattle.c_grammar.specs.Kinds.{number_word, number_of}
-use Rattle.c_grammar.specs.Symbols.{Side, left, right, Inside, type_inside, pointer_inside, value_inside_it, Symbol, an_expression, a_pointer, an_inner, an_inside, arguments, initializers, Rule, mark, blank, comma, star, parens, squares, braces, pair}
+use Rattle.c_grammar.specs.Symbols.{Side, left, right, Inside, type_inside, pointer_inside, value_inside_it, an_expression, a_pointer, an_inner, an_inside, initializers, Rule, mark, blank, comma, star, parens, squares, braces, pair}
 use Rattle.c_grammar.specs.TypeRules.{name, value_type}
 
 -- ---- places

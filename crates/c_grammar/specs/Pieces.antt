@@ -1,5 +1,5 @@
 -- A text as pieces: runs of letters, digits and underscores, runs of blanks, and single other bytes.
-use Rattle.std.specs.Prelude.{ℕ, suc, ◌==◌, Bool, if◌then◌else◌, List, [], ◌∷◌, ◌++◌, replicate}
+use Rattle.std.specs.Prelude.{ℕ, suc, ◌==◌, if◌then◌else◌, List, [], ◌∷◌, ◌++◌, replicate}
 use Rattle.c_text.specs.Identifiers.{is_identifier_byte}
 
 pub data Piece : Type 0 where

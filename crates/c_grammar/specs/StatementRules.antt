@@ -1,14 +1,13 @@
 -- Statements and declarations in functions of the C subset, each on a line of its own.
-use Rattle.std.specs.Prelude.{ℕ, Bool, List, [], ◌∷◌, Option, Some, None}
+use Rattle.std.specs.Prelude.{Bool, List, [], ◌∷◌, Option, Some, None}
 use Rattle.c_ast.specs.declared.types.CScalar.{CScalar}
-use Rattle.c_ast.specs.declared.types.CBase.{CBase}
 use Rattle.c_ast.specs.declared.types.CBase.TheVariants.{Scalar, Struct}
 use Rattle.c_ast.specs.declared.types.CType.{CType}
-use Rattle.c_ast.specs.Syntax.{Name, Expr, Read, Place, Init, FunctionCall, Stmt, Const, ConstCall, Object, Assign, If, IfElse, Forever, Break, Return, Block, Call, Stmts, Nil, Cons}
+use Rattle.c_ast.specs.Syntax.{Name, Expr, Read, Init, FunctionCall, Stmt, Const, ConstCall, Object, Assign, If, IfElse, Forever, Break, Return, Block, Call, Stmts, Nil, Cons}
 use Rattle.grammars.specs.Grammar.{token, map, sequence, choice, repeat, after, before, optional}
 use Rattle.c_grammar.specs.Pieces.{Piece}
 use Rattle.c_grammar.specs.Kinds.{indentation, outdentation}
-use Rattle.c_grammar.specs.Symbols.{Side, left, right, Symbol, an_expression, a_pointer, arguments, forever, a_block, Rule, mark, blank, new_line, semicolon, word_if, word_else, word_for, word_break, word_return, parens, braces, pair}
+use Rattle.c_grammar.specs.Symbols.{Side, left, right, an_expression, a_pointer, arguments, forever, a_block, Rule, mark, blank, new_line, semicolon, word_if, word_else, word_for, word_break, word_return, parens, braces, pair}
 use Rattle.c_grammar.specs.TypeRules.{name, scalar, tag, scalar_type, struct_pointer, held, held_pointer}
 use Rattle.c_grammar.specs.ExpressionRules.{Step, named_place, place_behind, step, number, in_parens, expression, initializer}
 

@@ -7,7 +7,7 @@ use Rattle.c_ast.specs.Syntax.{TranslationUnit}
 use Rattle.grammars.specs.Grammar.{Grammar, token}
 use Rattle.grammars.specs.Spelled.{Spells}
 use Rattle.grammars.specs.Reader.{read_with, read}
-use Rattle.c_grammar.specs.Pieces.{Piece, Word, pieces}
+use Rattle.c_grammar.specs.Pieces.{Piece, Word}
 use Rattle.c_grammar.specs.Kinds.{lexicon, exactly, scalar_word}
 use Rattle.c_grammar.specs.Symbols.{Symbol, an_expression, a_pointer, an_inner, an_inside, arguments, initializers, a_length, forever, a_block, a_body, the_members, the_types, the_params, stop_params, a_unit, Tree, Rule}
 use Rattle.c_grammar.specs.ExpressionRules.{expression, pointer_rule, inner_rule, inside_rule, arguments_rule, initializers_rule}

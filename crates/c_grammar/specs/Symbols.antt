@@ -1,5 +1,5 @@
 -- What stands between brackets in the C subset, the start, and the values of these.
-use Rattle.std.specs.Prelude.{ℕ, ◌+◌, Bool, List, Option, codes}
+use Rattle.std.specs.Prelude.{ℕ, ◌+◌, List, codes}
 use Rattle.c_ast.specs.declared.types.CType.{CType}
 use Rattle.c_ast.specs.declared.unit.CMember.{CMember}
 use Rattle.c_ast.specs.declared.unit.CParam.{CParam}
@@ -7,7 +7,7 @@ use Rattle.c_ast.specs.Syntax.{Expr, Init, Stmts, TranslationUnit}
 use Rattle.grammars.specs.Grammar as rules
 use Rattle.grammars.specs.Grammar.{token, brackets, after}
 use Rattle.c_grammar.specs.Pieces.{Piece, Word, Blanks, Byte}
-use Rattle.c_grammar.specs.Kinds.{exactly, kw_if, kw_else, kw_for, kw_break, kw_return, kw_static, kw_extern, kw_void, kw_struct, kw_const, name_word, one_blank, indentation, outdentation}
+use Rattle.c_grammar.specs.Kinds.{exactly, kw_if, kw_else, kw_for, kw_break, kw_return, kw_static, kw_extern, kw_void, kw_struct, kw_const, name_word, one_blank}
 
 pub data Symbol : Type 0 where
   -- `[E]` and `if (E)`; `(*E)` where a statement begins; `(..)` where an expression begins, and where a second `(` stands there

@@ -1,5 +1,5 @@
 -- Types in the C subset, and names with their types before them.
-use Rattle.std.specs.Prelude.{ℕ, Bool, true, false, Option, Some, None}
+use Rattle.std.specs.Prelude.{Bool, true, false, Option, Some, None}
 use Rattle.c_ast.specs.declared.types.CScalar.{CScalar}
 use Rattle.c_ast.specs.declared.types.CBase.{CBase}
 use Rattle.c_ast.specs.declared.types.CBase.TheVariants.{Scalar, Struct}
@@ -8,7 +8,7 @@ use Rattle.c_ast.specs.declared.types.CType.TheVariants.{Value, Pointer}
 use Rattle.c_ast.specs.Syntax.{Name}
 use Rattle.grammars.specs.Grammar.{token, map, sequence, choice, after, optional}
 use Rattle.c_grammar.specs.Kinds.{name_word, scalar_word, name_of, scalar_of}
-use Rattle.c_grammar.specs.Symbols.{Rule, mark, blank, word_struct, word_const, star, pair}
+use Rattle.c_grammar.specs.Symbols.{Rule, blank, word_struct, word_const, star}
 
 abbrev pub name : Rule Name
 name = token name_word name_of

@@ -1,6 +1,6 @@
 -- Structs, externs, objects, functions and whole units of the C subset. What begins alike is read up to where it parts: a struct and
 -- a function that gives a pointer to one; an object and a hidden function.
-use Rattle.std.specs.Prelude.{ℕ, zero, suc, Bool, true, false, List, [], ◌∷◌, ◌++◌, map, codes, Option, Some, None}
+use Rattle.std.specs.Prelude.{ℕ, zero, suc, Bool, true, false, List, [], ◌∷◌, codes, Option, Some, None}
 use Rattle.c_ast.specs.declared.types.CScalar.{CScalar}
 use Rattle.c_ast.specs.declared.types.CBase.{CBase}
 use Rattle.c_ast.specs.declared.types.CBase.TheVariants.{Scalar, Struct}
@@ -15,11 +15,10 @@ use Rattle.grammars.specs.Grammar as rules
 use Rattle.grammars.specs.Grammar.{token, empty, sequence, choice, repeat, stages, after, before, optional, separated}
 use Rattle.c_grammar.specs.Pieces.{Piece}
 use Rattle.c_grammar.specs.Kinds.{number_word, length_of, indentation}
-use Rattle.c_grammar.specs.Symbols.{Side, left, right, Symbol, a_length, a_body, the_members, the_types, the_params, stop_params, Rule, mark, blank, word, keyword, new_line, comma, semicolon, star, word_static, word_extern, word_void, word_struct, word_const, parens, squares, braces, pair}
-use Rattle.c_grammar.specs.Kinds.{exactly, scalar_word}
+use Rattle.c_grammar.specs.Symbols.{Side, left, right, a_length, a_body, the_members, the_types, the_params, stop_params, Rule, mark, blank, word, new_line, comma, semicolon, star, word_static, word_extern, word_void, word_const, parens, squares, braces, pair}
 use Rattle.c_grammar.specs.TypeRules.{name, scalar, tag, base, scalar_type, struct_pointer, value_type, held, held_pointer, not_to_const, to_const, pointer_name, typed_name}
 use Rattle.c_grammar.specs.ExpressionRules.{initializer}
-use Rattle.c_grammar.specs.StatementRules.{equals, lines}
+use Rattle.c_grammar.specs.StatementRules.{equals}
 
 -- ---- structs
 

@@ -1,5 +1,5 @@
 -- With which kinds the rows of a rule begin, and which rules have an empty row.
-use Rattle.std.proofs.Common.{◌≡◌, ℕ, ◌≤◌, Bool, true, false, cond, List, [], ◌∷◌, ◌++◌, inl, inr, refl, sym, ap, ◌∙◌, subst, arith, Option, Some}
+use Rattle.std.proofs.Common.{◌≡◌, ℕ, ◌≤◌, Bool, true, false, List, [], ◌∷◌, ◌++◌, inl, inr, refl, sym, ◌∙◌, subst, arith, Option, Some}
 use Rattle.std.specs.Prelude.{nat_eq}
 use Rattle.reading.specs.Row.{Entry, Row}
 use Rattle.reading.specs.Language.{Language, Many}

@@ -1,5 +1,5 @@
 -- The small grammar can be read by its first letters, so that its parser is exact.
-use Rattle.std.proofs.Common.{◌≡◌, ℕ, true, List, refl}
+use Rattle.std.proofs.Common.{◌≡◌, ℕ, List, refl}
 use Rattle.reading.specs.Row.{no_signs}
 use Rattle.reading.specs.Exact.{Exact, Spelled}
 use Rattle.grammars.specs.Checks.{Checked}

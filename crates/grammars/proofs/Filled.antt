@@ -1,5 +1,5 @@
 -- Each symbol of a checked grammar spells something.
-use Rattle.std.proofs.Common.{◌≡◌, ℕ, zero, suc, Bool, true, false, cond, List, [], ◌∷◌, ◌++◌, ◌⊎◌, inl, inr, refl, Option, Some}
+use Rattle.std.proofs.Common.{◌≡◌, ℕ, zero, suc, Bool, true, false, cond, [], ◌∷◌, ◌++◌, ◌⊎◌, inl, inr, refl, Option, Some}
 use Rattle.reading.specs.Row.{Entry, Row}
 use Rattle.reading.specs.Language.{Language, Terminal}
 use Rattle.grammars.specs.Grammar.{Lexicon, of_kind, stage, Rule, empty, token, map, sequence, split, choice, repeat, stages, brackets, Grammar}

@@ -5,13 +5,13 @@ use Rattle.std.specs.List.{list_all}
 use Rattle.std.proofs.lemmas.Bool.{eqb-true, and_parts}
 use Rattle.reading.specs.Row.{Entry, Row}
 use Rattle.reading.specs.Language.{Language, Many, Terminal}
-use Rattle.reading.proofs.Rows.{append_nil, has_one, front_nil, only_one, split_at}
+use Rattle.reading.proofs.Rows.{has_one, front_nil, only_one, split_at}
 use Rattle.grammars.specs.Grammar.{Lexicon, of_kind, Rule, empty, token, map, sequence, split, choice, repeat, stages, brackets, Grammar, stage}
 use Rattle.grammars.specs.Kinds.{holds, when, at_stages, at_some_stage, nullable, first}
 use Rattle.grammars.specs.Spelled.{InStages, SpellsWith, SpellsUpTo, Spells}
 use Rattle.grammars.specs.Reader.{among}
 use Rattle.grammars.specs.Neighbours.{SideBySide, clashing, last, meetings}
-use Rattle.grammars.proofs.Sets.{front_none, back_none, holds_left, holds_right, holds_one, holds_when, holds_stage, some_stage, stage_none, stage_within, kind_is, either_one, either_two}
+use Rattle.grammars.proofs.Sets.{front_none, back_none, holds_left, holds_right, holds_one, holds_when, holds_stage, some_stage, stage_none, stage_within, kind_is}
 use Rattle.grammars.proofs.Begins.{stages_in, empty_row, first_in}
 use Rattle.grammars.proofs.Levels.{from_symbol}
 
@@ -114,7 +114,7 @@ module _ {T N : Type 0} {Tree : N → Type 0} (lexicon : Lexicon T) (d : ℕ) (L
       let some = at_some_stage (λ j. nullable (rules j)) end in
       last_of_two f u v m e (EndsIn (all ++ when some (last p)) m)
       (λ g at. let w = last_in (rules k) b g m (subst (Rows (rules k) b) at t) in
-          either_kinds all (when some (last p)) m (w.0, holds_stage (λ j. last (rules j)) end k (lexicon.kind w.0 m.token) low w.1))
+      either_kinds all (when some (last p)) m (w.0, holds_stage (λ j. last (rules j)) end k (lexicon.kind w.0 m.token) low w.1))
       (λ g at nothing. when_kinds all (last p) m some (some_stage (λ j. nullable (rules j)) end k low (empty_row lexicon d L (rules k) b v t (sym nothing))) (last_in p a g m (subst (Rows p a) at s)))
   last_in (choice p q) a f m (inl s) = either_kinds (last p) (last q) m (last_in p a f m s)
   last_in (choice p q) a f m (inr s) = other_kinds (last p) (last q) m (last_in q a f m s)
@@ -169,11 +169,11 @@ module _ {T N : Type 0} {Tree : N → Type 0} (lexicon : Lexicon T) (g : Grammar
         let next = stage end (rank x) in
         subst Side_by (sym e) (side_by_side P u v (h k low x u s) (stage_rows end rank rules none h next (stage_within end (rank x)) xs v t)
         (λ f m n w at there.
-            let ends = last_in lexicon d L (rules k) x f m (subst (Here (rules k) x) at s) in
-            meet_of d (at_stages (λ s. last (rules s)) end) (at_stages (λ s. first (rules s)) end) none m n
-            (ends.0, holds_stage (λ s. last (rules s)) end k (lexicon.kind ends.0 m.token) low ends.1)
-            (stages_in end rank (λ s. Here (rules s)) (λ y. among lexicon d (at_stages (λ s. first (rules s)) end) y ≡ true)
-            (λ j less a y z r. holds_stage (λ s. first (rules s)) end j (lexicon.kind d y.token) less (first_in lexicon d L (rules j) a y z r)) next (stage_within end (rank x)) xs n w (subst (InStages end rank (λ s. Here (rules s)) next xs) there t))))
+        let ends = last_in lexicon d L (rules k) x f m (subst (Here (rules k) x) at s) in
+        meet_of d (at_stages (λ s. last (rules s)) end) (at_stages (λ s. first (rules s)) end) none m n
+        (ends.0, holds_stage (λ s. last (rules s)) end k (lexicon.kind ends.0 m.token) low ends.1)
+        (stages_in end rank (λ s. Here (rules s)) (λ y. among lexicon d (at_stages (λ s. first (rules s)) end) y ≡ true)
+        (λ j less a y z r. holds_stage (λ s. first (rules s)) end j (lexicon.kind d y.token) less (first_in lexicon d L (rules j) a y z r)) next (stage_within end (rank x)) xs n w (subst (InStages end rank (λ s. Here (rules s)) next xs) there t))))
 
     -- behind an opening token: the first of what stands between, or the closing one
     first_behind : (opens closes : ℕ) (n : N) (y : Tree n) (k : Row T) (m z : Entry T) → SpellsWith lexicon (suc d) (Spells lexicon g (suc (suc d))) (g n) y k
@@ -214,11 +214,11 @@ module _ {T N : Type 0} {Tree : N → Type 0} (lexicon : Lexicon T) (g : Grammar
         let opened : among lexicon d (opens ∷ []) m.token ≡ true = holds_one opens (lexicon.kind d m.token) (kind_is (nat_eq opens (lexicon.kind d m.token)) (Some m.token) o sel) in
         let closed : among lexicon (suc d) (closes ∷ []) z.token ≡ true = holds_one closes (lexicon.kind (suc d) z.token) (kind_is (nat_eq closes (lexicon.kind (suc d) z.token)) (Some z.token) c sel2) in
         let behind : Side_by (k ++ z ∷ []) = side_by_side P k (z ∷ []) i.0 tt (λ f a b r p q.
-            let end = last_in lexicon (suc d) (Spells lexicon g (suc (suc d))) (g n) y f a (subst (SpellsWith lexicon (suc d) (Spells lexicon g (suc (suc d))) (g n) y) p rule) in
-            let here : z ≡ b = cc in
-            subst (λ b. P a.token b.token) here (meet_of (suc d) (last (g n)) (closes ∷ []) w.1 a z end closed)) in
+        let end = last_in lexicon (suc d) (Spells lexicon g (suc (suc d))) (g n) y f a (subst (SpellsWith lexicon (suc d) (Spells lexicon g (suc (suc d))) (g n) y) p rule) in
+        let here : z ≡ b = cc in
+        subst (λ b. P a.token b.token) here (meet_of (suc d) (last (g n)) (closes ∷ []) w.1 a z end closed)) in
         let second : Meet P (m ∷ []) (k ++ z ∷ []) = λ f a b r p q.
-            subst (λ a. P a.token b.token) (sym (only_one f a m [] (sym p))) (first_behind opens closes n y k m z rule opened closed w.0 w.2 b r q) in
+        subst (λ a. P a.token b.token) (sym (only_one f a m [] (sym p))) (first_behind opens closes n y k m z rule opened closed w.0 w.2 b r q) in
         subst Side_by (sym (e ∙ ap (λ s. s ++ v) is ∙ ap (λ s. m ∷ s) (e2 ∙ ap (λ s. k ++ s) at))) (side_by_side P (m ∷ []) (k ++ z ∷ []) tt behind second)
 
   module _ (none : (n : N) → meetings parted g (g n) ≡ []) where

@@ -1,9 +1,9 @@
 -- Where nothing is wrong with a rule, nothing is wrong with its parts.
-use Rattle.std.proofs.Common.{◌≡◌, ℕ, suc, ◌≤◌, Bool, false, not, List, [], ◌∷◌, ◌++◌, map, Option, Some}
+use Rattle.std.proofs.Common.{◌≡◌, ℕ, suc, ◌≤◌, false, not, List, [], ◌∷◌, ◌++◌, map, Option, Some}
 use Rattle.std.specs.Prelude.{is_some}
 use Rattle.grammars.specs.Grammar.{Lexicon, of_kind, stage, Rule, sequence, split, choice, repeat, stages, brackets, Grammar}
-use Rattle.grammars.specs.Kinds.{common, when, at_stages, nullable, first, goes_on}
-use Rattle.grammars.specs.Checks.{Clash, NoExample, Either, Behind, Nothing, has_example, without_example, never_empty, behind, clashes}
+use Rattle.grammars.specs.Kinds.{common, at_stages, nullable, first, goes_on}
+use Rattle.grammars.specs.Checks.{NoExample, Either, Behind, Nothing, has_example, without_example, never_empty, behind, clashes}
 use Rattle.grammars.proofs.Sets.{front_none, back_none, map_none, when_none, stage_none, not_false, any_of, some_of}
 
 two : {A : Type 0} (xs ys : List A) → xs ++ ys ≡ [] → (xs ≡ []) × (ys ≡ [])
@@ -24,10 +24,12 @@ module _ {T N : Type 0} {Tree : N → Type 0} (lexicon : Lexicon T) (g : Grammar
   pub split_parts : {A C : Type 0} {Y : ℕ → Type 0} (last : ℕ) (way : A → ℕ) (f : (a : A) → Y (stage last (way a)) → C) (p : Rule T N Tree A) (rules : (s : ℕ) → Rule T N Tree (Y s)) → Clear (split last way f p rules)
       → Clear p × ((s : ℕ) → s ≤ last → Clear (rules s) × (common (goes_on p) (first (rules s)) ≡ []))
   split_parts last way f p rules e =
-      let w = two (clashes lexicon g d p) (at_stages (λ s. clashes lexicon g d (rules s) ++ behind lexicon g p (rules s)) last) e in
-      (w.0, λ s low.
-          let v = two (clashes lexicon g d (rules s)) (behind lexicon g p (rules s)) (stage_none (λ s. clashes lexicon g d (rules s) ++ behind lexicon g p (rules s)) last s w.1 low) in
-          (v.0, map_none Behind (common (goes_on p) (first (rules s))) v.1))
+      let w = two (clashes lexicon g d p) (at_stages (λ s. clashes lexicon g d (rules s) ++ behind lexicon g p (rules s)) last) e in (
+        w.0,
+        λ s low.
+            let v = two (clashes lexicon g d (rules s)) (behind lexicon g p (rules s)) (stage_none (λ s. clashes lexicon g d (rules s) ++ behind lexicon g p (rules s)) last s w.1 low) in
+            (v.0, map_none Behind (common (goes_on p) (first (rules s))) v.1),
+      )
 
   pub choice_parts : {A : Type 0} (p q : Rule T N Tree A) → Clear (choice p q) → Clear p × Clear q × (nullable p ≡ false) × (common (first p) (0 ∷ first q) ≡ [])
   choice_parts p q e =

@@ -2,7 +2,7 @@
 use Rattle.std.proofs.Common.{◌≡◌, ℕ, zero, suc, ◌+◌, ◌≤◌, ◌<◌, Bool, true, false, cond, List, [], ◌∷◌, ◌++◌, refl, sym, ap, ◌∙◌, subst, arith, Option, Some, None}
 use Rattle.std.specs.Prelude.{nat_eq}
 use Rattle.std.proofs.lemmas.Bool.{eqb-true}
-use Rattle.reading.specs.Row.{Entry, Row, Signs, no_signs, starts}
+use Rattle.reading.specs.Row.{Signs, no_signs, starts}
 use Rattle.reading.specs.Language.{Language, Enclosed}
 use Rattle.reading.specs.Reader.{Reader, choose, enclosed, whole, below}
 use Rattle.reading.specs.Good.{Good}
@@ -19,7 +19,7 @@ use Rattle.grammars.specs.Kinds.{holds, common, when, at_stages, at_some_stage, 
 use Rattle.grammars.specs.Spelled.{SpellsWith, Spells}
 use Rattle.grammars.specs.Reader.{among, next, choose_kind, at_symbol, read_with, read}
 use Rattle.grammars.specs.Checks.{clashes, Checked}
-use Rattle.grammars.proofs.Sets.{holds_left, holds_right, holds_when, holds_self, holds_stage, some_stage, stage_within, common_back, kind_is, either_one, either_two}
+use Rattle.grammars.proofs.Sets.{holds_left, holds_right, holds_when, holds_self, holds_stage, some_stage, stage_within, common_back, kind_is, either_two}
 use Rattle.grammars.proofs.Levels.{to_symbol, from_symbol}
 use Rattle.grammars.proofs.Begins.{empty_row, first_in, starts_with, starts_apart}
 use Rattle.grammars.proofs.Parts.{sequence_parts, split_parts, choice_parts, repeat_parts, stage_parts, bracket_parts, example_of}
@@ -84,13 +84,13 @@ module _ {T N : Type 0} {Tree : N → Type 0} (lexicon : Lexicon T) (g : Grammar
         let ends = when (at_some_stage (λ k. nullable (rules k)) last) (goes_on p) in
         good_then (good_rule limit d fits inner h p w.0)
         (λ a. let k = stage last (way a) in
-            let low = stage_within last (way a) in
-            good_map (f a) (good_wider (λ t e. holds_left (at_stages at last) ends (lexicon.kind d t) (holds_stage at last k (lexicon.kind d t) low e)) (good_rule limit d fits inner h (rules k) (w.1 k low).0)))
+        let low = stage_within last (way a) in
+        good_map (f a) (good_wider (λ t e. holds_left (at_stages at last) ends (lexicon.kind d t) (holds_stage at last k (lexicon.kind d t) low e)) (good_rule limit d fits inner h (rules k) (w.1 k low).0)))
         (λ a b m row x. let k = stage last (way a) in
-            common_back (goes_on p) (first (rules k)) (lexicon.kind d m.token) (w.1 k (stage_within last (way a))).1 (first_in lexicon d L (rules k) x.0 m row x.1))
+        common_back (goes_on p) (first (rules k)) (lexicon.kind d m.token) (w.1 k (stage_within last (way a))).1 (first_in lexicon d L (rules k) x.0 m row x.1))
         (λ a b x t e. let k = stage last (way a) in
-            holds_when (at_stages at last) (goes_on p) (lexicon.kind d t) (at_some_stage (λ k. nullable (rules k)) last)
-            (some_stage (λ k. nullable (rules k)) last k (stage_within last (way a)) (empty_row lexicon d L (rules k) x.0 [] x.1 refl)) e)
+        holds_when (at_stages at last) (goes_on p) (lexicon.kind d t) (at_some_stage (λ k. nullable (rules k)) last)
+        (some_stage (λ k. nullable (rules k)) last k (stage_within last (way a)) (empty_row lexicon d L (rules k) x.0 [] x.1 refl)) e)
     good_rule limit d fits inner h (choice p q) s =
         let L = Spells lexicon g (suc d) in
         let w = choice_parts lexicon g d p q s in

@@ -1,7 +1,7 @@
 -- A list in stages is read stage by stage. Up to a number of parts it is a choice and a sequence; and where as many parts may
 -- be read as there are tokens, more make no difference.
-use Rattle.std.proofs.Common.{◌≡◌, ℕ, zero, suc, ◌+◌, ◌≤◌, ◌<◌, Bool, true, false, cond, List, [], ◌∷◌, ◌++◌, inl, inr, refl, sym, ap, ◌∙◌, subst, arith, length, length-append}
-use Rattle.reading.specs.Row.{Entry, Row, Signs, tokens, starts}
+use Rattle.std.proofs.Common.{◌≡◌, ℕ, zero, suc, ◌+◌, ◌≤◌, Bool, true, false, cond, List, [], ◌∷◌, ◌++◌, inl, inr, refl, sym, ap, ◌∙◌, subst, arith, length, length-append}
+use Rattle.reading.specs.Row.{Row, Signs, tokens, starts}
 use Rattle.reading.specs.Language.{Language, Given, Mapped, Then, Either}
 use Rattle.reading.specs.Reader.{Outcome, Done, Unexpected, TooDeep, Reader, and_then, mapped}
 use Rattle.reading.specs.Good.{Good, Passed}

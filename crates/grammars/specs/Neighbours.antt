@@ -1,5 +1,5 @@
 -- Which kinds of tokens stand side by side: so that it can be told from a grammar that no two tokens of a row run into one.
-use Rattle.std.specs.Prelude.{ℕ, Bool, true, cond, List, [], ◌∷◌, ◌++◌}
+use Rattle.std.specs.Prelude.{ℕ, Bool, cond, List, [], ◌∷◌, ◌++◌}
 use Rattle.std.specs.List.{list_all}
 use Rattle.reading.specs.Row.{Row}
 use Rattle.grammars.specs.Grammar.{Rule, empty, token, map, sequence, split, choice, repeat, stages, brackets, Grammar}

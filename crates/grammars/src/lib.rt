@@ -9,4 +9,7 @@
 
 mod example;
 
-pub use example::{a_text_has_one_tree, clashes_are_named, nested_lists_are_parsed_exactly, small_texts_are_parsed_so};
+pub use example::{
+    a_text_has_one_tree, clashes_are_named, nested_lists_are_parsed_exactly,
+    small_texts_are_parsed_so,
+};

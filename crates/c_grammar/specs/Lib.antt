@@ -6,4 +6,5 @@ pub mod ExpressionRules
 pub mod StatementRules
 pub mod UnitRules
 pub mod Subset
+pub mod Examples
 pub mod Laws

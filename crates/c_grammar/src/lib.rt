@@ -15,6 +15,6 @@
 mod laws;
 
 pub use laws::{
-    pieces_are_the_text, pieces_spell_one_unit, spelled_bytes_are_texts, texts_are_spelled,
-    texts_tell_units_apart, units_are_read_exactly,
+    pieces_are_the_text, pieces_spell_one_unit, small_texts_are_read_so, spelled_bytes_are_texts,
+    texts_are_spelled, texts_tell_units_apart, units_are_read_exactly,
 };

@@ -53,7 +53,3 @@ module _ {d : ℕ} where
 
   pub const_name_written : (x : Name) → IsIdentifier x → Written d const_name x (codes "const " ++ x)
   const_name_written x is = as_text (a_const then (a_blank then name_written x is)) refl
-
-  pub held_pointer_written : (constant : Bool) (x : Name) → IsIdentifier x → (base : List ℕ) → (t : List ℕ) × Written d held_pointer (constant, x) t × (base ++ (codes " " ++ t) ≡ base ++ star_text constant ++ codes "const " ++ x)
-  held_pointer_written false x is base = (_, first_of (mapped not_to_const (a_star then const_name_written x is)), simp append_assoc refl)
-  held_pointer_written true x is base = (_, second_of (mapped to_const (a_const then (a_blank then (a_star then const_name_written x is)))), simp append_assoc refl)

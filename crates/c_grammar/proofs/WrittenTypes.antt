@@ -1,5 +1,5 @@
 -- Types of the subset are spelled by their texts, and so are names with their types.
-use Rattle.std.proofs.Common.{◌≡◌, ℕ, Bool, true, false, List, ◌++◌, refl, append_assoc, Some, codes}
+use Rattle.std.proofs.Common.{ℕ, Bool, true, false, ◌++◌, refl, Some, codes}
 use Rattle.reading.proofs.Rows.{append_nil}
 use Rattle.c_ast.specs.declared.types.CScalar.{CScalar}
 use Rattle.c_ast.specs.declared.types.CBase.{CBase}
@@ -12,7 +12,7 @@ use Rattle.c_text.specs.TypeText.{scalar_text, base_text, star_text, type_text}
 use Rattle.c_text.specs.Subset.{BaseInSubset, ValueInSubset}
 use Rattle.c_grammar.specs.Pieces.{Word, Blanks, Byte}
 use Rattle.c_grammar.specs.Symbols.{blank, star, word_const}
-use Rattle.c_grammar.specs.TypeRules.{name, scalar, tag, base, scalar_type, struct_pointer, pointer, value_type, not_to_const, to_const, const_name, held_pointer}
+use Rattle.c_grammar.specs.TypeRules.{name, scalar, tag, base, scalar_type, struct_pointer, pointer, value_type, const_name}
 use Rattle.c_grammar.proofs.Words.{name_piece, scalar_piece}
 use Rattle.c_grammar.proofs.Written.{Written, as_text, one_piece, nothing, mapped, in_sequence, ◌then◌, first_of, second_of}
 

@@ -1,7 +1,7 @@
 -- Small texts, and what is answered of them.
-use Rattle.std.specs.Prelude.{ℕ, true, false, List, [], ◌∷◌, ◌++◌, codes, Some, None}
+use Rattle.std.specs.Prelude.{ℕ, true, List, [], ◌∷◌, ◌++◌, codes, Some}
 use Rattle.c_ast.specs.declared.types.CScalar.TheVariants.{Truth}
-use Rattle.c_ast.specs.declared.types.CType.TheVariants.{Void, Value}
+use Rattle.c_ast.specs.declared.types.CType.TheVariants.{Value}
 use Rattle.c_ast.specs.declared.expr.Suffix.TheVariants.{Plain, U}
 use Rattle.c_ast.specs.declared.expr.CBinary.TheVariants.{Lt}
 use Rattle.c_ast.specs.Syntax.{Number, Binary, Return, Nil, Cons, TranslationUnit}

@@ -2,5 +2,13 @@
 #![tactic(auto)]
 
 mod check;
+mod expr;
+mod init;
+mod items;
+mod stmt;
 
 pub use check::{Check, SiteKind};
+pub use expr::{CoreExpr, CoreKind, CoreLink, CoreStep};
+pub use init::CoreInit;
+pub use items::{CoreArea, CoreContract, CoreImport, CoreParam, CoreProc};
+pub use stmt::{CoreCall, CoreStmt};

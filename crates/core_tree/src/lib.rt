@@ -5,10 +5,12 @@ mod check;
 mod expr;
 mod init;
 mod items;
+mod resolved;
 mod stmt;
 
 pub use check::{Check, SiteKind};
 pub use expr::{CoreExpr, CoreKind, CoreLink, CoreStep};
 pub use init::CoreInit;
 pub use items::{CoreArea, CoreContract, CoreImport, CoreParam, CoreProc};
+pub use resolved::Core;
 pub use stmt::{CoreCall, CoreStmt};

@@ -17,3 +17,4 @@ pub mod TypedInits
 pub mod TypedStatements
 pub mod TypedItems
 pub mod Valid
+pub mod Examples

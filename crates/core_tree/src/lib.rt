@@ -2,13 +2,16 @@
 #![tactic(auto)]
 
 mod check;
+mod exports;
 mod expr;
 mod init;
 mod items;
+pub mod laws;
 mod resolved;
 mod stmt;
 
 pub use check::{Check, SiteKind};
+pub use exports::exports_of;
 pub use expr::{CoreExpr, CoreKind, CoreLink, CoreStep};
 pub use init::CoreInit;
 pub use items::{CoreArea, CoreContract, CoreImport, CoreParam, CoreProc};

@@ -1,0 +1,17 @@
+//! Small cores, by which the definitions are held fast.
+
+ghost use Rattle.core_tree.specs.Examples as example;
+
+/// A chain is nested to the left.
+pub fn chain_examples()
+    ensures nest { example.ChainsNestLeft }
+{}
+
+/// A core that is valid, and cores that are not.
+#[tactic(auto, using(crate::proofs::Examples::cores))]
+pub fn core_examples()
+    ensures adder { example.AdderIsValid }
+    ensures numbers { example.NumbersFollowTokens }
+    ensures own { example.OwnStays }
+    ensures calls { example.CallsGoBack }
+{}

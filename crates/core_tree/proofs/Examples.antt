@@ -16,7 +16,7 @@ use Rattle.core_tree.specs.Types.{is_type, is_plain}
 use Rattle.core_tree.specs.TypedItems.{ProcTyped, env_of, below}
 use Rattle.core_tree.specs.Valid.{ValidCore, ProcsTyped}
 use Rattle.core_tree.specs.Examples as example
-use Rattle.core_tree.specs.Examples.{AdderIsValid, NumbersFollowTokens, OwnStays, CallsGoBack}
+use Rattle.core_tree.specs.Examples.{AdderIsValid, NumbersFollowTokens, OwnStays, CallsGoBack, DivisorsComeFirst}
 
 all_one : {A : Type 0} (P : A → Type 0) (x : A) → P x → All P (x ∷ [])
 all_one P x h = All-cons P x [] h (All-nil P)
@@ -143,4 +143,9 @@ own_stays (Some wanted) v = let kept : false ≡ true = (v.procs 0 _ refl).body.
 pub calls_go_back : CallsGoBack
 calls_go_back v = let none : None ≡ Some (v.procs 0 _ refl).body.0.header = (v.procs 0 _ refl).body.0.callee in absurd (cc)
 
-pub ruleset cores = (adder_is_valid, numbers_follow_tokens, calls_go_back)
+-- ---- sites
+
+pub divisors_come_first : DivisorsComeFirst
+divisors_come_first = record { all = IsPermutation-refl _; ascending = (refl, (refl, (tt, tt))); numbered = (refl, (refl, (refl, tt))) }
+
+pub ruleset cores = (adder_is_valid, numbers_follow_tokens, calls_go_back, divisors_come_first)

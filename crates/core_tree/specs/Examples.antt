@@ -7,29 +7,35 @@ use Rattle.area_types.specs.Syntax as types
 use Rattle.area_types.specs.Syntax.{ValueType}
 use Rattle.area_types.specs.declared.region.Region.TheVariants as region
 use Rattle.core_tree.specs.declared.check.Check.{Check}
+use Rattle.core_tree.specs.declared.check.SiteKind.{SiteKind}
 use Rattle.core_tree.specs.declared.check.SiteKind.TheVariants as kind
-use Rattle.core_tree.specs.Syntax.{Label, ExprCore, Number, Local, Binary, Whole, StmtCore, Alloc, Call, Return, StmtsCore, NoStmts, MoreStmts, ParamCore, ProcCore, ModuleCore}
-use Rattle.core_tree.specs.View.{LinkCore, linked}
+use Rattle.core_tree.specs.Syntax.{Label, ExprCore, Number, Local, Binary, Field, Element, Whole, StmtCore, Alloc, Call, Return, StmtsCore, NoStmts, MoreStmts, ParamCore, ProcCore, ModuleCore}
+use Rattle.core_tree.specs.View.{LinkCore, FieldStep, IndexStep, linked, stepped}
+use Rattle.core_tree.specs.Sites.{AreSitesOf}
 use Rattle.core_tree.specs.Valid.{ValidCore}
 
--- ---- a chain
+-- where nothing is checked
+abbrev pub plain : ValueType → Label
+plain ty = record { ty = ty; checks = [] }
 
--- of any label
-abbrev pub link : Label → ℕ → LinkCore
-link l value = record { label = l; op = op.Add; right = Number l (pos value) }
+-- ---- chains and postfixes
+
+-- a number with its label, behind a link with another one
+abbrev pub link : (link operand : Label) → ℕ → LinkCore
+link l operand value = record { label = l; op = op.Add; right = Number operand (pos value) }
 
 -- `1 + 2 + 3` is `(1 + 2) + 3`, each operator with the label of its own link
 abbrev pub ChainsNestLeft : Type 0
-ChainsNestLeft = (l m n : Label) → linked (Number l (pos 1)) (link m 2 ∷ link n 3 ∷ []) ≡ Binary n op.Add (Binary m op.Add (Number l (pos 1)) (Number m (pos 2))) (Number n (pos 3))
+ChainsNestLeft = (k l m : Label) → linked (Number k (pos 1)) (link l k 2 ∷ link m k 3 ∷ []) ≡ Binary m op.Add (Binary l op.Add (Number k (pos 1)) (Number k (pos 2))) (Number k (pos 3))
+
+-- `e.f[i]` is `(e.f)[i]`, each part with the type of its own step and without a check
+abbrev pub PostfixesNestLeft : Type 0
+PostfixesNestLeft = (e i : ExprCore) (t u : ValueType) → stepped e (FieldStep t 0 ∷ IndexStep u i ∷ []) ≡ Element (plain u) (Field (plain t) e 0) i
 
 -- ---- cores of one module
 
 abbrev pub u8 : ValueType
 u8 = types.Int U8
-
--- where nothing is checked
-abbrev pub plain : ValueType → Label
-plain ty = record { ty = ty; checks = [] }
 
 -- the sum that is site k, with its operator at the byte
 abbrev pub sum_at : (k at : ℕ) → (left right : ExprCore) → ExprCore
@@ -76,3 +82,13 @@ OwnStays = (result : Option ValueType) → ValidCore (procs (record (proc 102 (M
 -- `proc f() { g(); } proc g() {}`
 abbrev pub CallsGoBack : Type 0
 CallsGoBack = ValidCore (procs (proc 102 (one (Call (record { import = false; callee = 1; args = [] }))) ∷ proc 103 NoStmts ∷ [])) → ⊥
+
+-- ---- sites
+
+-- a check at the operator that begins at the byte
+abbrev pub check_at : (site : ℕ) → SiteKind → (start : ℕ) → Check
+check_at site kind start = record { site = site; kind = kind; span = record { start = start; end = start + 1 } }
+
+-- of the checks of one `/` the divisor's comes first, and those of an operator before it in the text come before both
+abbrev pub DivisorsComeFirst : Type 0
+DivisorsComeFirst = AreSitesOf (check_at 0 kind.Overflow 2 ∷ check_at 1 kind.DivZero 4 ∷ check_at 2 kind.Overflow 4 ∷ []) (check_at 0 kind.Overflow 2 ∷ check_at 1 kind.DivZero 4 ∷ check_at 2 kind.Overflow 4 ∷ [])

@@ -31,7 +31,11 @@ abbrev pub IsNumberedFrom : ℕ → List Check → Type 0
 IsNumberedFrom n [] = Unit {0}
 IsNumberedFrom n (c ∷ cs) = (c.site ≡ n) × IsNumberedFrom (suc n) cs
 
-pub record AreSites (m : ModuleCore) (sites : List Check) : Type 0 where
-  pub all : IsPermutation (checks_of m) sites
+-- these checks as a row of sites
+pub record AreSitesOf (checks sites : List Check) : Type 0 where
+  pub all : IsPermutation checks sites
   pub ascending : Ascends sites
   pub numbered : IsNumberedFrom 0 sites
+
+abbrev pub AreSites : ModuleCore → List Check → Type 0
+AreSites m sites = AreSitesOf (checks_of m) sites

@@ -2,9 +2,10 @@
 
 ghost use Rattle.core_tree.specs.Examples as example;
 
-/// A chain is nested to the left.
-pub fn chain_examples()
-    ensures nest { example.ChainsNestLeft }
+/// A chain is nested to the left, and so is a postfix.
+pub fn nesting_examples()
+    ensures chain { example.ChainsNestLeft }
+    ensures postfix { example.PostfixesNestLeft }
 {}
 
 /// A core that is valid, and cores that are not.
@@ -14,4 +15,5 @@ pub fn core_examples()
     ensures numbers { example.NumbersFollowTokens }
     ensures own { example.OwnStays }
     ensures calls { example.CallsGoBack }
+    ensures division { example.DivisorsComeFirst }
 {}

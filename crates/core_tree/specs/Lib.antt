@@ -17,4 +17,5 @@ pub mod TypedInits
 pub mod TypedStatements
 pub mod TypedItems
 pub mod Valid
+pub mod Laws
 pub mod Examples

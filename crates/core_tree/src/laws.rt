@@ -1,6 +1,13 @@
-//! Small cores, by which the definitions are held fast.
+//! A law of sites, and small cores, by which the definitions are held fast.
 
+ghost use Rattle.core_tree.specs.Laws.{SitesAreOneRow};
 ghost use Rattle.core_tree.specs.Examples as example;
+
+/// The same checks are one row of sites at most.
+#[tactic(auto, using(crate::proofs::Sites::sites_are_one_row))]
+pub fn sites_are_one_row()
+    ensures { SitesAreOneRow }
+{}
 
 /// A chain is nested to the left, and so is a postfix.
 pub fn nesting_examples()

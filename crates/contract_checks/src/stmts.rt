@@ -89,15 +89,22 @@ fn add_stmt(stmt: &CoreStmt, found: &mut Seq<Check>) -> Result<(), Memory>
         CoreStmt::Copy(target, source) => add_two(target, source, found),
         CoreStmt::Call(call) => add_call(call, found),
         CoreStmt::If(test, first, second) => {
-            add_block(test, first, found)?;
+            add_expr(test, found)?;
+            add_stmts(first, found)?;
             match second {
                 Some(stmts) => add_stmts(stmts, found),
                 None => Ok(()),
             }
         }
         CoreStmt::Map(_, _, body) => add_stmts(body, found),
-        CoreStmt::Upto(_, _, last, body) => add_block(last, body, found),
-        CoreStmt::Downto(_, _, first, body) => add_block(first, body, found),
+        CoreStmt::Upto(_, _, last, body) => {
+            add_expr(last, found)?;
+            add_stmts(body, found)
+        }
+        CoreStmt::Downto(_, _, first, body) => {
+            add_expr(first, found)?;
+            add_stmts(body, found)
+        }
         CoreStmt::Forever(body) => add_stmts(body, found),
         CoreStmt::Break => Ok(()),
         CoreStmt::Return(value) => add_value(value, found),
@@ -106,15 +113,6 @@ fn add_stmt(stmt: &CoreStmt, found: &mut Seq<Check>) -> Result<(), Memory>
         CoreStmt::NoBreak(body) => add_stmts(body, found),
         CoreStmt::NoReturn(body) => add_stmts(body, found),
     }
-}
-
-/// The checks of an expression, and then those of the statements that it decides on.
-#[cycle(stmts)]
-fn add_block(e: &CoreExpr, stmts: &Seq<CoreStmt>, found: &mut Seq<Check>) -> Result<(), Memory>
-    ensures { OnOk result (found.new ≡ found.old ++ (expr_checks (expr_of e.now) ++ stmts_checks (stmts_of stmts.now))) }
-{
-    add_expr(e, found)?;
-    add_stmts(stmts, found)
 }
 
 #[cycle(stmts)]

@@ -8,7 +8,7 @@ use Rattle.std.proofs.lemmas.List.Sorted.{IsPermutation-refl, All-permutation, l
 use Rattle.area_types.specs.Syntax.{Name, ValueType}
 use Rattle.core_tree.specs.declared.check.Check.{Check}
 use Rattle.core_tree.specs.declared.check.SiteKind.TheVariants as kind
-use Rattle.core_tree.specs.Syntax.{ExprCore, Whole, ProcCore, ModuleCore}
+use Rattle.core_tree.specs.Syntax.{ExprCore, Whole, NoStmts, ProcCore, ModuleCore}
 use Rattle.core_tree.specs.Names.{AllDifferent, ParamsApart, NamesApart, item_names}
 use Rattle.core_tree.specs.Sites.{AreSites, Ascends, IsNumberedFrom}
 use Rattle.core_tree.specs.TypedExpressions.{ExprTyped}
@@ -109,6 +109,47 @@ adder_is_valid = record {
   procs = procs_typed;
   sites = check_at 0 60 ∷ [];
   numbered = record { all = IsPermutation-refl _; ascending = (tt, tt); numbered = (refl, tt) };
+}
+
+-- ---- one without checks
+
+-- a procedure of any name, without parameters, contracts and statements
+abbrev pub bare : Name → Bool → ProcCore
+bare name exported = record { name = name; exported = exported; params = []; result = None; contracts = []; locals = []; body = NoStmts }
+
+bare_typed : (name : Name) (exported : Bool) → ProcTyped (example.procs (bare name exported ∷ [])) [] (bare name exported)
+bare_typed name exported = record {
+  params = record { numbered = refl; types = All-nil _ };
+  result = refl;
+  exported = λ h. record { params = All-nil _; result = refl };
+  params_first = refl;
+  counted = refl;
+  contracts = All-nil _;
+  body = tt;
+  returns = refl;
+}
+
+bare_procs : (name : Name) (exported : Bool) → ProcsTyped (example.procs (bare name exported ∷ []))
+bare_procs name exported zero p e = only (ProcTyped (example.procs (bare name exported ∷ [])) []) (bare name exported) p (bare_typed name exported) e
+bare_procs name exported (suc k) p e = absurd (cc)
+
+pub bare_is_valid : (name : Name) (exported : Bool) → ValidCore (example.procs (bare name exported ∷ []))
+bare_is_valid name exported = record {
+  table = refl;
+  words = refl;
+  layouts = All-nil _;
+  names = record {
+    items = one_different name;
+    types = none_different;
+    struct_fields = All-nil _;
+    bit_fields = All-nil _;
+    params = all_one (ParamsApart (example.procs (bare name exported ∷ []))) (bare name exported) (record { different = none_different; outside = All-nil _ });
+  };
+  areas = All-nil _;
+  imports = All-nil _;
+  procs = bare_procs name exported;
+  sites = [];
+  numbered = record { all = IsPermutation-refl _; ascending = tt; numbered = tt };
 }
 
 -- ---- those that are not

@@ -7,6 +7,8 @@ mod row;
 mod site;
 mod stmts;
 mod table;
+#[cfg(test)]
+mod tests;
 
 pub use site::Site;
 pub use table::site_table;

@@ -1,16 +1,15 @@
 -- The examples of cores.
-use Rattle.std.proofs.Common.{◌≡◌, ◌≢◌, ℕ, zero, suc, ◌+◌, ◌*◌, ◌<◌, Bool, true, false, List, [], ◌∷◌, map, take, length, refl, sym, ap, ◌∙◌, arith, slice_get, subst, inl, inr}
-use Rattle.std.specs.Prelude.{Option, Some, None, ◌||◌, ◌&&◌, nat_lt, nat_eq, All, AllPairs, IsTrue, Contains}
-use Rattle.std.specs.List.Sorted.{IsPermutation}
+use Rattle.std.proofs.Common.{◌≡◌, ◌≢◌, ℕ, zero, suc, ◌+◌, ◌*◌, ◌<◌, Bool, true, false, List, [], ◌∷◌, length, refl, sym, arith, subst, inl}
+use Rattle.std.specs.Prelude.{Some, None, ◌||◌, ◌&&◌, nat_lt, nat_eq, All, IsTrue, Contains}
 use Rattle.std.proofs.lemmas.List.Elements.{All-nil, All-cons, All-head, All-tail}
 use Rattle.std.proofs.lemmas.List.Kept.{AllPairs-cons}
 use Rattle.std.proofs.lemmas.List.Sorted.{IsPermutation-refl, All-permutation, length_permutation}
-use Rattle.area_types.specs.Syntax.{Name, ValueType}
+use Rattle.area_types.specs.Syntax.{Name}
 use Rattle.core_tree.specs.declared.check.Check.{Check}
 use Rattle.core_tree.specs.declared.check.SiteKind.TheVariants as kind
 use Rattle.core_tree.specs.Syntax.{ExprCore, Whole, NoStmts, ProcCore, ModuleCore}
 use Rattle.core_tree.specs.Names.{AllDifferent, ParamsApart, NamesApart, item_names}
-use Rattle.core_tree.specs.Sites.{AreSites, Ascends, IsNumberedFrom}
+use Rattle.core_tree.specs.Sites.{Ascends, IsNumberedFrom}
 use Rattle.core_tree.specs.TypedExpressions.{ExprTyped}
 use Rattle.core_tree.specs.Types.{is_type, is_plain}
 use Rattle.core_tree.specs.TypedItems.{ProcTyped, env_of, below}
@@ -76,7 +75,8 @@ sum_typed : ExprTyped (env_of adder [] the_proc) (below 2) sum
 sum_typed = (
   record { in_scope = (1, omega arith, refl); type = refl; unchecked = refl },
   record { in_scope = (0, omega arith, refl); type = refl; unchecked = refl },
-  record { is_for = refl; same = refl; type = refl; checked = record { of_kinds = refl; token = (check_at 0 60).span; together = all_one (λ c. c.span ≡ (check_at 0 60).span) (check_at 0 60) refl } })
+  record { is_for = refl; same = refl; type = refl; checked = record { of_kinds = refl; token = (check_at 0 60).span; together = all_one (λ c. c.span ≡ (check_at 0 60).span) (check_at 0 60) refl } },
+)
 
 proc_typed : ProcTyped adder [] the_proc
 proc_typed = record {

@@ -1,5 +1,5 @@
 -- All checks of a core, each where it stands.
-use Rattle.std.specs.Prelude.{List, [], ◌∷◌, ◌++◌, Option, Some, None}
+use Rattle.std.specs.Prelude.{List, [], ◌∷◌, ◌++◌, Some, None}
 use Rattle.std.specs.List.{flat_map}
 use Rattle.core_tree.specs.declared.check.Check.{Check}
 use Rattle.core_tree.specs.Syntax.{ExprCore, Number, Outcome, Local, AreaName, Cast, ToIndex, WrapIndex, MakeBits, Raw, SetField, Prefix, Binary, Field, Element, Cond, Whole, InitCore, One, Many, InitsCore, NoInits, MoreInits, CallCore, StmtCore, Let, LetCall, Alloc, Store, Copy, Call, If, IfElse, Map, Upto, Downto, Forever, Break, Return, Assert, NoAlloc, NoBreak, NoReturn, StmtsCore, NoStmts, MoreStmts, ContractCore, ProcCore, ModuleCore}

@@ -1,5 +1,5 @@
 -- How deep a core is: the most of its statement lists, right operands of `&&` and `||`, and arms of `?:` that are open at one place.
-use Rattle.std.specs.Prelude.{ℕ, ◌+◌, max, map, Option, Some, None}
+use Rattle.std.specs.Prelude.{ℕ, ◌+◌, max, map, Some, None}
 use Rattle.ivory_tree.specs.Depth.{deepest, right_depth}
 use Rattle.core_tree.specs.Syntax.{ExprCore, Number, Outcome, Local, AreaName, Cast, ToIndex, WrapIndex, MakeBits, Raw, SetField, Prefix, Binary, Field, Element, Cond, Whole, InitCore, One, Many, InitsCore, NoInits, MoreInits, CallCore, StmtCore, Let, LetCall, Alloc, Store, Copy, Call, If, IfElse, Map, Upto, Downto, Forever, Break, Return, Assert, NoAlloc, NoBreak, NoReturn, StmtsCore, NoStmts, MoreStmts, ContractCore, ProcCore, ModuleCore}
 

@@ -1,6 +1,5 @@
 -- Small cores: one that is valid, and three that are not; and how a chain nests.
 use Rattle.std.specs.Prelude.{◌≡◌, ℕ, ◌+◌, pos, true, false, List, [], ◌∷◌, Option, Some, None}
-use Rattle.iv_words.specs.declared.Span.{Span}
 use Rattle.iv_words.specs.declared.kind.IntKind.TheVariants.{U8}
 use Rattle.ivory_tree.specs.declared.expr.BinOp.TheVariants as op
 use Rattle.area_types.specs.Syntax as types

@@ -1,12 +1,10 @@
 -- The names in a core, and when they are apart.
-use Rattle.std.specs.Prelude.{◌≢◌, List, [], ◌∷◌, ◌++◌, map, All, AllPairs, Contains}
+use Rattle.std.specs.Prelude.{◌≢◌, List, ◌++◌, map, All, AllPairs, Contains}
 use Rattle.std.specs.List.{flat_map}
-use Rattle.area_types.specs.declared.structs.FieldDef.{FieldDef}
 use Rattle.area_types.specs.declared.structs.StructDef.{StructDef}
 use Rattle.area_types.specs.Syntax.{Name}
-use Rattle.bit_data.specs.declared.layout.FieldBits.{FieldBits}
 use Rattle.bit_data.specs.declared.layout.BitLayout.{BitLayout}
-use Rattle.core_tree.specs.Syntax.{ParamCore, ProcCore, ModuleCore}
+use Rattle.core_tree.specs.Syntax.{ProcCore, ModuleCore}
 
 -- the names of areas, imports and procedures
 abbrev pub item_names : ModuleCore → List Name

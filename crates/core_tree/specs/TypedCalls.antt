@@ -1,6 +1,6 @@
 -- When a call of a core is well typed: there is a substitution of the callee's region parameters by regions of the caller under
 -- which each argument fits its parameter.
-use Rattle.std.specs.Prelude.{◌≡◌, ℕ, List, [], ◌∷◌, map, All, Option, Some}
+use Rattle.std.specs.Prelude.{◌≡◌, ℕ, List, [], ◌∷◌, map, All, Some}
 use Rattle.area_types.specs.Syntax.{ValueType}
 use Rattle.area_types.specs.declared.region.Region.{Region}
 use Rattle.region_check.specs.Substitutions.{applied}

@@ -1,5 +1,5 @@
 -- When an initializer of a core fits an area: an expression a stored value, and a list of initializers the first elements or fields.
-use Rattle.std.specs.Prelude.{◌≡◌, ℕ, suc, Bool, true, false, nat_lt, if◌then◌else◌, Option, Some, None, IsTrue, List}
+use Rattle.std.specs.Prelude.{ℕ, suc, Bool, true, false, nat_lt, if◌then◌else◌, Option, Some, None, IsTrue, List}
 use Rattle.area_types.specs.Syntax.{Area, Stored, Array, Struct}
 use Rattle.core_tree.specs.Syntax.{ModuleCore, InitCore, One, Many, InitsCore, NoInits, MoreInits}
 use Rattle.core_tree.specs.Environments.{Env, struct_field}

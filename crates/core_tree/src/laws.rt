@@ -1,11 +1,16 @@
-//! A law of sites, and small cores, by which the definitions are held fast.
+//! Laws of cores, and small cores, by which the definitions are held fast.
 
-ghost use Rattle.core_tree.specs.Laws.{SitesAreOneRow};
+ghost use Rattle.core_tree.specs.Laws.{SitesAreOneRow, ExportsAreAll};
 ghost use Rattle.core_tree.specs.Examples as example;
 
 /// The same checks are one row of sites at most.
 pub fn sites_are_one_row()
     ensures { SitesAreOneRow }
+{}
+
+/// Each exported procedure of a core is an export, in order.
+pub fn exports_are_all()
+    ensures { ExportsAreAll }
 {}
 
 /// A chain is nested to the left, and so is a postfix.

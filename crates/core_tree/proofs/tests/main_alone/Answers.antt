@@ -1,4 +1,4 @@
-use Rattle.std.proofs.Common.{refl, true}
+use Rattle.std.proofs.Common.{true}
 use Rattle.core_tree.proofs.Examples.{bare_is_valid}
 use Rattle.core_tree.proofs.tests.main_alone.Goals as goal
 

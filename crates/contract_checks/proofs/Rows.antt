@@ -52,5 +52,5 @@ each_back (c ∷ row) = ap (λ more. c ∷ more) (each_back row)
 pub are_sites : (m : ModuleCore) (checks row : List Check) (answer : Result (List Site) Memory) → checks ≡ checks_of m → AreSites m row → ((sites : List Check) → AreSitesOf checks sites → IfOk answer (λ xs. xs ≡ map site_of sites)) → IfOk answer (λ xs. AreSites m (map check_of xs))
 are_sites m checks row answer same sites gives =
     IfOk-weaker answer (λ xs. xs ≡ map site_of row) (λ xs. AreSites m (map check_of xs))
-      (λ xs is. subst (AreSites m) (sym (ap (map check_of) is ∙ each_back row)) sites)
-      (gives row (subst (λ cs. AreSitesOf cs row) (sym same) sites))
+    (λ xs is. subst (AreSites m) (sym (ap (map check_of) is ∙ each_back row)) sites)
+    (gives row (subst (λ cs. AreSitesOf cs row) (sym same) sites))

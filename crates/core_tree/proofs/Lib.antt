@@ -1,0 +1,4 @@
+pub mod View
+pub mod Sites
+pub mod Exported
+pub mod Examples

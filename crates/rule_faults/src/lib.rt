@@ -1,0 +1,2 @@
+//! The first fault of a module.
+#![tactic(auto)]

@@ -5,3 +5,8 @@ pub mod Nodes
 pub mod ExpressionRows
 pub mod StatementRows
 pub mod ItemRows
+pub mod Tests
+pub mod ItemRules
+pub mod ExpressionRules
+pub mod StatementRules
+pub mod FirstFault

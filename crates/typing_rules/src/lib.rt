@@ -1,0 +1,2 @@
+//! Which modules are well typed, and the core that each stands for.
+#![tactic(auto)]

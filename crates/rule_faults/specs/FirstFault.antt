@@ -1,5 +1,5 @@
 -- The first fault of a module: the first node in the order of the text that breaks a rule, and the least rule that is broken there.
-use Rattle.std.specs.Prelude.{◌≡◌, ℕ, ◌+◌, ◌<◌, Bool, true, false, ◌||◌, ◌&&◌, nat_lt, nat_le, nat_eq, List, [], ◌∷◌, slice_get, Option, Some, None, IsTrue}
+use Rattle.std.specs.Prelude.{◌≡◌, ℕ, ◌+◌, ◌<◌, Bool, true, false, ◌||◌, ◌&&◌, nat_lt, nat_le, nat_eq, List, [], ◌∷◌, ◌⊎◌, Option, Some, None, IsTrue}
 use Rattle.std.specs.List.{list_any, list_all, position_from}
 use Rattle.iv_words.specs.declared.Span.{Span}
 use Rattle.ivory_tree.specs.Syntax.{ModuleSyntax}
@@ -8,7 +8,6 @@ use Rattle.rule_faults.specs.ItemRows.{module_row}
 use Rattle.rule_faults.specs.ItemRules.{rule_1, rule_2, rule_3, rule_8, rule_9, rule_10, rule_11, rule_12, rule_13, rule_14, rule_15, rule_16, rule_17}
 use Rattle.rule_faults.specs.ExpressionRules.{rule_4, rule_5, rule_6, rule_7, rule_18, rule_19, rule_20, rule_21, rule_22, rule_23, rule_24, rule_25, rule_26, rule_27, rule_28, rule_29, rule_30, rule_35, rule_36, rule_37, rule_38, rule_39}
 use Rattle.rule_faults.specs.StatementRules.{rule_31, rule_32, rule_33, rule_34, rule_40, rule_41, rule_42, rule_43, rule_44}
-use Rattle.rule_faults.specs.Tests.{where_there}
 
 -- the rules by number, from 1
 abbrev pub rules : List (Node → Bool)
@@ -17,13 +16,14 @@ rules =
     ∷ rule_17 ∷ rule_18 ∷ rule_19 ∷ rule_20 ∷ rule_21 ∷ rule_22 ∷ rule_23 ∷ rule_24 ∷ rule_25 ∷ rule_26 ∷ rule_27 ∷ rule_28 ∷ rule_29 ∷ rule_30
     ∷ rule_31 ∷ rule_32 ∷ rule_33 ∷ rule_34 ∷ rule_35 ∷ rule_36 ∷ rule_37 ∷ rule_38 ∷ rule_39 ∷ rule_40 ∷ rule_41 ∷ rule_42 ∷ rule_43 ∷ rule_44 ∷ []
 
-abbrev pub is_broken : Option (Node → Bool) → Node → Bool
-is_broken None n = false
-is_broken (Some rule) n = rule n
+-- a rule of these, which are numbered from i on, has the number k and is broken at the node
+abbrev pub Broken : (i : ℕ) → List (Node → Bool) → (k : ℕ) → Node → Type 0
+Broken i [] k n = ⊥
+Broken i (rule ∷ more) k n = ((k ≡ i) × IsTrue (rule n)) ⊎ Broken (i + 1) more k n
 
 -- the node breaks rule k
 abbrev pub Breaks : ℕ → Node → Type 0
-Breaks k n = (j : ℕ) × (k ≡ j + 1) × IsTrue (is_broken (slice_get rules j) n)
+Breaks k n = Broken 1 rules k n
 
 -- it breaks none
 abbrev pub Sound : Node → Type 0
@@ -65,3 +65,6 @@ comes_before s t = nat_lt s.start t.start || (nat_eq s.start t.start && nat_le t
 abbrev pub in_order : List Node → Bool
 in_order [] = true
 in_order (n ∷ ns) = list_all (λ m. comes_before (span_of n) (span_of m)) ns && in_order ns
+
+abbrev pub module_in_order : ModuleSyntax → Bool
+module_in_order m = in_order (module_row m)

@@ -10,3 +10,4 @@ pub mod ItemRules
 pub mod ExpressionRules
 pub mod StatementRules
 pub mod FirstFault
+pub mod Laws

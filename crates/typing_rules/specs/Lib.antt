@@ -6,3 +6,5 @@ pub mod Calls
 pub mod Areas
 pub mod Initializers
 pub mod Statements
+pub mod Items
+pub mod WellTyped

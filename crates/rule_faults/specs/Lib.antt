@@ -11,3 +11,4 @@ pub mod ExpressionRules
 pub mod StatementRules
 pub mod FirstFault
 pub mod Laws
+pub mod Examples

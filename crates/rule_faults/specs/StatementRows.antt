@@ -31,6 +31,7 @@ abbrev pub after_stmt : Context → StmtSyntax → Context
 after_stmt context (Let s name value) = with_local context name.text (own_type context value)
 after_stmt context (LetCall s name call) = with_local context name.text (call_type context call)
 after_stmt context (Alloc s name area init) = with_local context name.text (own_area (area_in context.earlier area))
+after_stmt context (IfElse s test first second) = context
 after_stmt context _ = context
 
 -- in the body of a loop: it may break, and the loop's name is an index

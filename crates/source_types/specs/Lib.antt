@@ -5,3 +5,4 @@ pub mod Environments
 pub mod Written
 pub mod Items
 pub mod Parts
+pub mod Short

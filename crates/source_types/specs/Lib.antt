@@ -6,3 +6,4 @@ pub mod Written
 pub mod Items
 pub mod Parts
 pub mod Short
+pub mod Examples

@@ -8,3 +8,5 @@ pub mod Initializers
 pub mod Statements
 pub mod Items
 pub mod WellTyped
+pub mod Examples
+pub mod Laws

@@ -1,0 +1,26 @@
+//! A small module with its core, and what is not well typed.
+
+ghost use Rattle.typing_rules.specs.Examples as example;
+
+/// The module stands for its core.
+#[tactic(auto, using(crate::proofs::Examples::examples))]
+pub fn module_example()
+    ensures added { example.AddedStands }
+    ensures prefixes { example.PrefixesAreTold }
+{}
+
+/// Literals need types that hold them.
+#[tactic(auto, using(crate::proofs::Examples::examples))]
+pub fn literal_examples()
+    ensures wanted { example.LiteralsWantTypes }
+    ensures fit { example.LiteralsFit }
+{}
+
+/// What statements may do.
+#[tactic(auto, using(crate::proofs::Examples::examples))]
+pub fn statement_examples()
+    ensures own { example.OwnStays }
+    ensures breaks { example.BreaksAreAllowed }
+    ensures ends { example.ReturnsEnd }
+    ensures back { example.CallsGoBack }
+{}

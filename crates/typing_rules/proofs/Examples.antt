@@ -81,6 +81,8 @@ added_stands = record {
     params = refl;
     locals = refl }) module_rule.no_items;
   structs = refl;
-  words = refl }
+  words = refl;
+  sites = sum_label.checks;
+  numbered = record { all = self_permutation _; ascending = (tt, tt); numbered = (refl, tt) } }
 
 pub ruleset examples = (added_stands, own_stays, literals_want_types, literals_fit, breaks_are_allowed, returns_end, calls_go_back)

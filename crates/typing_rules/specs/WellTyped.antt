@@ -7,6 +7,7 @@ use Rattle.bit_data.specs.declared.BitLayout.{BitLayout}
 use Rattle.alloc_effects.specs.declared.allowed.Allowed.{Allowed}
 use Rattle.core_tree.specs.Syntax.{AreaCore, ImportCore, ProcCore, ModuleCore}
 use Rattle.core_tree.specs.declared.Check.{Check}
+use Rattle.core_tree.specs.Sites.{AreSites}
 use Rattle.source_types.specs.Environments.{Earlier, nothing_earlier, words}
 use Rattle.source_types.specs.Written.{regions_of}
 use Rattle.source_types.specs.Items.{after, item_names}
@@ -44,6 +45,9 @@ pub record StandsFor (m : ModuleSyntax) (core : ModuleCore) : Type 0 where
   pub items : StandItems (item_names m.items) nothing_earlier m.items end core.layouts core.areas core.imports core.procs
   pub structs : structs_of core.structs ≡ end.structs
   pub words : core.structs.words ≡ words end
+  -- its checks are numbered by the order of the tokens that carry them
+  pub sites : List Check
+  pub numbered : AreSites core sites
 
 pub record WellTyped (m : ModuleSyntax) : Type 0 where
   pub core : ModuleCore

@@ -4,7 +4,6 @@ ghost use Rattle.core_tree.specs.Laws.{SitesAreOneRow};
 ghost use Rattle.core_tree.specs.Examples as example;
 
 /// The same checks are one row of sites at most.
-#[tactic(auto, using(crate::proofs::Sites::sites_are_one_row))]
 pub fn sites_are_one_row()
     ensures { SitesAreOneRow }
 {}

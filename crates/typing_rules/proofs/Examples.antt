@@ -11,6 +11,7 @@ use Rattle.iv_words.specs.declared.IntKind.TheVariants.{U8}
 use Rattle.source_types.specs.Environments.{nothing_earlier}
 use Rattle.source_types.specs.Items.{after, item_names}
 use Rattle.core_tree.specs.Syntax as core
+use Rattle.std.proofs.lemmas.List.Sorted.{IsPermutation-refl}
 use Rattle.typing_rules.specs.Sites.{unchecked}
 use Rattle.typing_rules.specs.Items.{with_params}
 use Rattle.typing_rules.specs.WellTyped.{at_header}
@@ -83,6 +84,6 @@ added_stands = record {
   structs = refl;
   words = refl;
   sites = sum_label.checks;
-  numbered = record { all = self_permutation _; ascending = (tt, tt); numbered = (refl, tt) } }
+  numbered = record { all = IsPermutation-refl _; ascending = (tt, tt); numbered = (refl, tt) } }
 
 pub ruleset examples = (added_stands, own_stays, literals_want_types, literals_fit, breaks_are_allowed, returns_end, calls_go_back)

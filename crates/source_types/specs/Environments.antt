@@ -1,5 +1,5 @@
 -- What the earlier items of a module declare. A type that is written wrongly does not exist; its place is at fault.
-use Rattle.std.specs.Prelude.{ℕ, Bool, ◌||◌, List, [], ◌∷◌, map, Option, Some, None}
+use Rattle.std.specs.Prelude.{ℕ, Bool, ◌||◌, List, [], map, Option}
 use Rattle.std.specs.List.{list_any, position_from, find}
 use Rattle.iv_words.specs.declared.IntKind.{IntKind}
 use Rattle.iv_words.specs.Words.{same_word}

@@ -7,7 +7,7 @@ use Rattle.ivory_tree.specs.declared.expr.PrefixOp.TheVariants.{Neg, Not}
 use Rattle.ivory_tree.specs.declared.types.RegionText.TheVariants as region
 use Rattle.area_types.specs.Syntax.{Truth, Int, Ix, Bits, Ref, Stored, Array}
 use Rattle.area_types.specs.declared.region.Region.TheVariants.{Param, Own}
-use Rattle.source_types.specs.Short.{span, name, cell, byte, byte_in_r, variable, number, param}
+use Rattle.source_types.specs.Short.{span, name, cell, byte_in_r, variable, number, param}
 use Rattle.source_types.specs.Settled.{settled}
 use Rattle.source_types.specs.Values.{holds, least_unsigned, same_type}
 use Rattle.source_types.specs.Operators.{is_for}

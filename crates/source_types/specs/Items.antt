@@ -1,5 +1,5 @@
 -- What is declared after an item, and the names of a module's areas, imports and procedures.
-use Rattle.std.specs.Prelude.{Bool, true, false, List, [], ◌∷◌, ◌++◌}
+use Rattle.std.specs.Prelude.{true, false, List, [], ◌∷◌, ◌++◌}
 use Rattle.ivory_tree.specs.Syntax.{Word, ItemSyntax, BitsData, Struct, Global, Import, Procedure}
 use Rattle.source_types.specs.Environments.{Earlier}
 use Rattle.source_types.specs.Written.{struct_in, global_in, callee_in}

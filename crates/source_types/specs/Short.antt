@@ -1,5 +1,5 @@
 -- Short words for the trees of small examples, each with its place.
-use Rattle.std.specs.Prelude.{ℕ, Bool, true, false, List, [], ◌∷◌, Option, Some, None, pos, codes}
+use Rattle.std.specs.Prelude.{ℕ, Bool, false, List, [], Option, pos, codes}
 use Rattle.iv_words.specs.declared.IntKind.TheVariants.{U8}
 use Rattle.iv_words.specs.declared.Name.{Name}
 use Rattle.iv_words.specs.declared.Span.{Span}

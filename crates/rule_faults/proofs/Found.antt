@@ -1,9 +1,9 @@
 -- The first fault of a row is what the function gives.
-use Rattle.std.proofs.Common.{◌≡◌, ℕ, ◌+◌, ◌≤◌, ◌<◌, Bool, true, false, cond, List, [], ◌∷◌, Option, Some, None, ◌⊎◌, inl, inr, refl, sym, ap, subst, ◌∙◌, IsTrue, arith}
+use Rattle.std.proofs.Common.{◌≡◌, ℕ, ◌+◌, ◌≤◌, ◌<◌, Bool, true, false, cond, List, [], ◌∷◌, Option, Some, None, inl, inr, refl, sym, ap, subst, ◌∙◌, IsTrue, arith}
 use Rattle.std.specs.List.{position_from}
 use Rattle.iv_words.specs.declared.Span.{Span}
-use Rattle.rule_faults.specs.Nodes.{Node, span_of}
-use Rattle.rule_faults.specs.FirstFault.{rules, Broken, Breaks, Sound, Least, First, here, later, least_broken, at_node, first_of}
+use Rattle.rule_faults.specs.Nodes.{Node}
+use Rattle.rule_faults.specs.FirstFault.{rules, Broken, Sound, Least, First, here, later, least_broken, at_node, first_of}
 use Rattle.rule_faults.specs.Laws.{Found, Complete, Unique}
 
 some_injective : {A : Type 0} {x y : A} → Some x ≡ Some y → x ≡ y

@@ -1,11 +1,10 @@
 -- What is known at a node: the items before it, and within a procedure its region parameters, its result and the names in scope. A type is
 -- none where it does not exist: the place that names it wrongly is an earlier node, and is at fault.
-use Rattle.std.specs.Prelude.{Bool, true, false, ◌||◌, ◌&&◌, List, [], ◌∷◌, ◌++◌, Option, Some, None, option_map, option_and_then, is_some, if◌then◌else◌}
+use Rattle.std.specs.Prelude.{Bool, true, false, ◌||◌, ◌&&◌, List, [], ◌∷◌, ◌++◌, Option, None, option_map, option_and_then, if◌then◌else◌}
 use Rattle.std.specs.List.{list_any, find}
 use Rattle.iv_words.specs.Words.{same_word}
 use Rattle.ivory_tree.specs.Syntax.{Word}
 use Rattle.area_types.specs.Syntax.{ValueType, Ref, Area}
-use Rattle.area_types.specs.declared.region.Region.{Region}
 use Rattle.area_types.specs.declared.region.Region.TheVariants.{Global, Own}
 use Rattle.alloc_effects.specs.declared.allowed.Allowed.{Allowed}
 use Rattle.source_types.specs.Environments.{Earlier, AreaDeclared, has_word, area_named, is_area}

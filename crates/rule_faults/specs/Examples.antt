@@ -22,14 +22,14 @@ abbrev pub two_regions : ModuleSyntax
 two_regions = module_m
     (Global (record { name = name (codes "out") 15 18; constant = false; area = cell 21 28; init = None; span = span 10 29 })
     ∷ procedure false (header (name (codes "pick") 35 39) (param (name (codes "a") 40 41) (byte_in_r 44 57 50) 40 57 ∷ param (name (codes "b") 59 60) (byte_in_r 63 76 69) 59 76 ∷ []) (Some (byte_in_r 81 94 87)) 35 94)
-        (block 95 110 (Return (span 99 108) (Some (variable (codes "b") 106 107)) ∷ [])) 30 110
+    (block 95 110 (Return (span 99 108) (Some (variable (codes "b") 106 107)) ∷ [])) 30 110
     ∷ procedure true (header (name (codes "go") 123 125) (param (name (codes "c") 126 127) (TruthType (span 130 134)) 126 134 ∷ []) None 123 135)
-        (block 136 228
-            (Alloc (span 140 162) (name (codes "p") 146 147) (cell 150 157) (Some (One (number 1 160 161)))
-            ∷ If (span 165 213) (variable (codes "c") 168 169)
-                (block 170 213 (LetCall (span 176 197) (name (codes "x") 180 181) (call (name (codes "pick") 184 188) (variable (codes "out") 189 192 ∷ variable (codes "p") 194 195 ∷ []) 184 196)
-                    ∷ Store (span 202 209) (variable (codes "x") 203 204) (number 5 207 208) ∷ []))
-            ∷ Store (span 216 226) (variable (codes "out") 217 220) (Prefix (span 223 225) Deref (variable (codes "p") 224 225)) ∷ [])) 111 228
+    (block 136 228
+    (Alloc (span 140 162) (name (codes "p") 146 147) (cell 150 157) (Some (One (number 1 160 161)))
+    ∷ If (span 165 213) (variable (codes "c") 168 169)
+    (block 170 213 (LetCall (span 176 197) (name (codes "x") 180 181) (call (name (codes "pick") 184 188) (variable (codes "out") 189 192 ∷ variable (codes "p") 194 195 ∷ []) 184 196)
+    ∷ Store (span 202 209) (variable (codes "x") 203 204) (number 5 207 208) ∷ []))
+    ∷ Store (span 216 226) (variable (codes "out") 217 220) (Prefix (span 223 225) Deref (variable (codes "p") 224 225)) ∷ [])) 111 228
     ∷ []) 228
 
 -- one region parameter is not global and the caller's own
@@ -76,8 +76,11 @@ BodyFallsThrough = FirstFault left_loop 44 (span 27 49)
 -- `bitdata B : uint8_t { x : 3, y : 4 }`
 abbrev pub short_fields : ModuleSyntax
 short_fields = module_m (BitsData (record {
-    name = name (codes "B") 18 19; word = U8; span = span 10 46;
-    fields = record { name = name (codes "x") 32 33; width = 3; truth = false; span = span 32 37 } ∷ record { name = name (codes "y") 39 40; width = 4; truth = false; span = span 39 44 } ∷ [] }) ∷ []) 46
+  name = name (codes "B") 18 19;
+  word = U8;
+  span = span 10 46;
+  fields = record { name = name (codes "x") 32 33; width = 3; truth = false; span = span 32 37 } ∷ record { name = name (codes "y") 39 40; width = 4; truth = false; span = span 39 44 } ∷ [];
+}) ∷ []) 46
 
 -- the widths miss the word
 abbrev pub WidthsMissTheWord : Type 0
@@ -105,7 +108,7 @@ OuterNodeCounts = FirstFault two_nodes 20 (span 35 40)
 abbrev pub after_else : ModuleSyntax
 after_else = module_m (procedure false (header (name (codes "f") 15 16) (param (name (codes "b") 17 18) (TruthType (span 21 25)) 17 25 ∷ []) None 15 26)
     (block 27 73 (IfElse (span 31 58) (variable (codes "b") 34 35) (block 36 38 []) (block 44 58 (Let (span 46 56) (name (codes "c") 50 51) (variable (codes "b") 54 55) ∷ []))
-        ∷ Let (span 61 71) (name (codes "d") 65 66) (variable (codes "c") 69 70) ∷ [])) 10 73 ∷ []) 73
+    ∷ Let (span 61 71) (name (codes "d") 65 66) (variable (codes "c") 69 70) ∷ [])) 10 73 ∷ []) 73
 
 -- what the `else` block names is not known after it
 abbrev pub ElseBlockEnds : Type 0

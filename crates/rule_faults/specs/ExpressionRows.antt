@@ -3,11 +3,11 @@ use Rattle.std.specs.Prelude.{ℕ, ◌+◌, Bool, List, [], ◌∷◌, ◌++◌,
 use Rattle.ivory_tree.specs.Syntax.{Word, TypeSyntax, TruthType, IntType, IndexType, BitsType, RefType, AreaSyntax, StoredArea, ArrayArea, StructArea, ExprSyntax, Literal, Truth, Outcome, Variable, Cast, ToIndex, WrapIndex, MakeBits, Raw, SetField, Prefix, Binary, Field, Element, Cond, Bare, InitSyntax, One, Many, InitsSyntax, NoInits, MoreInits, CallSyntax}
 use Rattle.area_types.specs.Syntax as types
 use Rattle.area_types.specs.Syntax.{ValueType, Area, StructType, Ref}
-use Rattle.region_check.specs.Calls.{Reference, reference_of, Passed}
+use Rattle.region_check.specs.Calls.{reference_of, Passed}
 use Rattle.source_types.specs.Environments.{Earlier, Callee, callee_named}
 use Rattle.rule_faults.specs.Contexts.{Context}
 use Rattle.rule_faults.specs.Types.{type_of}
-use Rattle.rule_faults.specs.Wants.{Want, Nothing, Unknown, Wants, wants, of_operand, of_arm, beside, of_cast, of_word, of_new_value, of_index, of_argument}
+use Rattle.rule_faults.specs.Wants.{Want, Nothing, Unknown, Wants, of_operand, of_arm, beside, of_cast, of_word, of_new_value, of_index, of_argument}
 use Rattle.rule_faults.specs.Nodes.{Use, Within, Node, AType, AnArea, AnInit, ACall, AnExpr}
 
 abbrev mutual

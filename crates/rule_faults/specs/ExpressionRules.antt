@@ -1,10 +1,9 @@
 -- Rules 4 to 7 and 18 to 30, 35 to 39: names, and the types of expressions.
-use Rattle.std.specs.Prelude.{Bool, true, false, ◌&&◌, ◌||◌, not, Option, Some, None, is_some, option_and_then}
-use Rattle.ivory_tree.specs.Syntax.{BitsType, StructArea, ExprSyntax, Literal, Truth, Outcome, Variable, Cast, ToIndex, WrapIndex, MakeBits, Raw, SetField, Prefix, Binary, Field, Element, Cond, StmtSyntax, Store}
+use Rattle.std.specs.Prelude.{Bool, false, ◌&&◌, ◌||◌, not, Option, Some, None, is_some, option_and_then}
+use Rattle.ivory_tree.specs.Syntax.{BitsType, StructArea, ExprSyntax, Literal, Outcome, Variable, Cast, ToIndex, WrapIndex, MakeBits, Raw, SetField, Prefix, Binary, Field, Element, Cond, Store}
 use Rattle.ivory_tree.specs.declared.expr.BinOp.{BinOp}
 use Rattle.ivory_tree.specs.declared.expr.PrefixOp.TheVariants.{Deref}
-use Rattle.area_types.specs.Syntax.{ValueType, Bits, Ref, Area, Struct}
-use Rattle.area_types.specs.declared.region.Region.{Region}
+use Rattle.area_types.specs.Syntax.{ValueType, Area}
 use Rattle.region_check.specs.Calls.{Reference, reference_of, may_stand_for}
 use Rattle.region_check.specs.Substitutions.{escapes}
 use Rattle.source_types.specs.Values.{is_integer, is_index_type, is_bit_data, is_reference, holds, same_type, same_region, same_area}

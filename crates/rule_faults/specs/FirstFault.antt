@@ -1,6 +1,6 @@
 -- The first fault of a module: the first node in the order of the text that breaks a rule, and the least rule that is broken there.
-use Rattle.std.specs.Prelude.{◌≡◌, ℕ, ◌+◌, ◌<◌, Bool, true, false, ◌||◌, ◌&&◌, nat_lt, nat_le, nat_eq, List, [], ◌∷◌, ◌⊎◌, Option, Some, None, IsTrue}
-use Rattle.std.specs.List.{list_any, list_all, position_from}
+use Rattle.std.specs.Prelude.{◌≡◌, ℕ, ◌+◌, ◌<◌, Bool, true, ◌||◌, ◌&&◌, nat_lt, nat_le, nat_eq, List, [], ◌∷◌, ◌⊎◌, Option, Some, None, IsTrue}
+use Rattle.std.specs.List.{list_all, position_from}
 use Rattle.iv_words.specs.declared.Span.{Span}
 use Rattle.ivory_tree.specs.Syntax.{ModuleSyntax}
 use Rattle.rule_faults.specs.Nodes.{Node, span_of}

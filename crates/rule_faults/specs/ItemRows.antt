@@ -1,16 +1,16 @@
 -- The nodes of items and of a module. A header is no node of its own.
 use Rattle.std.specs.Prelude.{Bool, true, false, not, List, [], ◌∷◌, ◌++◌, Option, Some, None}
-use Rattle.ivory_tree.specs.Syntax.{Word, TypeSyntax, FieldSyntax, ParamSyntax, HeaderSyntax, ContractSyntax, GlobalSyntax, ProcSyntax, ItemSyntax, BitsData, Struct, Global, Import, Procedure, InitSyntax, ModuleSyntax}
+use Rattle.ivory_tree.specs.Syntax.{Word, TypeSyntax, FieldSyntax, ParamSyntax, HeaderSyntax, ContractSyntax, ProcSyntax, ItemSyntax, BitsData, Struct, Global, Import, Procedure, InitSyntax, ModuleSyntax}
 use Rattle.ivory_tree.specs.declared.items.BitField.{BitField}
 use Rattle.area_types.specs.Syntax as types
-use Rattle.source_types.specs.Environments.{Earlier, Callee, nothing_earlier}
+use Rattle.source_types.specs.Environments.{Earlier, nothing_earlier}
 use Rattle.source_types.specs.Written.{type_in, area_in, regions_of, callee_in}
 use Rattle.source_types.specs.Items.{after, item_names}
 use Rattle.rule_faults.specs.Contexts.{Context, outside, with_local}
 use Rattle.rule_faults.specs.Wants.{Wants}
 use Rattle.rule_faults.specs.Nodes.{Boundary, Exported, Imported, Inner, ForParam, ForResult, Node, AnItem, ABitField, AField, AParam, AContract}
 use Rattle.rule_faults.specs.ExpressionRows.{type_row, area_row, expr_row, init_row}
-use Rattle.rule_faults.specs.StatementRows.{alloc_row, block_row}
+use Rattle.rule_faults.specs.StatementRows.{block_row}
 
 abbrev pub bit_fields_row : (before : List Word) → List BitField → List Node
 bit_fields_row before [] = []

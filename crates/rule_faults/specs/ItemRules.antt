@@ -1,10 +1,9 @@
 -- Rules 1 to 3 and 8 to 17: names, lengths and sizes, bit data, what crosses the module's boundary, initializers.
-use Rattle.std.specs.Prelude.{ℕ, ◌+◌, ℤ, pos, int_le, Bool, true, false, ◌&&◌, ◌||◌, not, if◌then◌else◌, nat_eq, nat_lt, List, [], ◌∷◌, length, filter_map, sum_by, slice_get, Option, Some, None, option_map, is_some}
+use Rattle.std.specs.Prelude.{ℕ, ◌+◌, pos, int_le, Bool, true, false, ◌&&◌, ◌||◌, not, if◌then◌else◌, nat_eq, nat_lt, List, length, filter_map, sum_by, slice_get, Option, Some, None, option_map, is_some}
 use Rattle.std.specs.List.{list_all}
 use Rattle.iv_words.specs.Kinds.{width, is_signed}
 use Rattle.iv_words.specs.declared.Name.{Name}
-use Rattle.ivory_tree.specs.Syntax.{Word, TypeSyntax, IndexType, RefType, AreaSyntax, ArrayArea, ExprSyntax, Literal, Truth, ToIndex, WrapIndex, MakeBits, InitSyntax, One, Many, InitsSyntax, NoInits, MoreInits, StmtSyntax, Let, LetCall, Alloc, Map, Upto, Downto, FieldSyntax, ItemSyntax, BitsData, Struct, Global, Import, Procedure}
-use Rattle.ivory_tree.specs.declared.types.RegionText.{RegionText}
+use Rattle.ivory_tree.specs.Syntax.{IndexType, RefType, ArrayArea, ExprSyntax, Literal, Truth, ToIndex, WrapIndex, MakeBits, One, Many, InitsSyntax, NoInits, MoreInits, StmtSyntax, Let, LetCall, Alloc, Map, Upto, Downto, FieldSyntax, BitsData, Struct, Global, Import, Procedure}
 use Rattle.ivory_tree.specs.declared.types.RegionText.TheVariants as region
 use Rattle.ivory_tree.specs.declared.items.BitField.{BitField}
 use Rattle.type_trees.specs.Trees as trees
@@ -15,8 +14,8 @@ use Rattle.area_types.specs.Tables.{is_length, is_small}
 use Rattle.source_types.specs.Values.{is_plain}
 use Rattle.source_types.specs.Environments.{Earlier, words, has_word, is_item, is_type_name}
 use Rattle.source_types.specs.Written.{type_in, area_in, field_in}
-use Rattle.rule_faults.specs.Contexts.{Context, is_taken}
-use Rattle.rule_faults.specs.Nodes.{Boundary, Exported, Imported, Inner, Use, ForParam, ForResult, Within, Node, AnItem, ABitField, AField, AParam, AType, AnArea, AnInit, AStatement, AnExpr}
+use Rattle.rule_faults.specs.Contexts.{is_taken}
+use Rattle.rule_faults.specs.Nodes.{Exported, Imported, ForParam, ForResult, Node, AnItem, ABitField, AField, AParam, AType, AnArea, AnInit, AStatement, AnExpr}
 use Rattle.rule_faults.specs.Tests.{where_there}
 
 -- the name that a statement brings into scope

@@ -1,5 +1,5 @@
 -- The function gives the first fault, and there is at most one.
-use Rattle.std.specs.Prelude.{◌≡◌, ℕ, Some, None}
+use Rattle.std.specs.Prelude.{◌≡◌, ℕ, Some}
 use Rattle.iv_words.specs.declared.Span.{Span}
 use Rattle.ivory_tree.specs.Syntax.{ModuleSyntax}
 use Rattle.rule_faults.specs.FirstFault.{FirstFault, first_fault}

@@ -11,11 +11,11 @@ use Rattle.alloc_effects.specs.Permissions.{narrowed, looped}
 use Rattle.alloc_effects.specs.declared.allowed.Narrowing.{Narrowing}
 use Rattle.alloc_effects.specs.declared.allowed.Narrowing.TheVariants as narrowing
 use Rattle.control_effects.specs.Falling.{stmt_falls}
-use Rattle.source_types.specs.Environments.{Earlier, Callee, callee_named}
+use Rattle.source_types.specs.Environments.{Callee, callee_named}
 use Rattle.source_types.specs.Written.{index_type, area_in}
 use Rattle.rule_faults.specs.Contexts.{Context, with_local, own_area}
 use Rattle.rule_faults.specs.Types.{own_type}
-use Rattle.rule_faults.specs.Wants.{Want, Nothing, Wants, wants, of_stored, of_returned}
+use Rattle.rule_faults.specs.Wants.{Nothing, Wants, wants, of_stored, of_returned}
 use Rattle.rule_faults.specs.Nodes.{Node, AStatement, ABlock}
 use Rattle.rule_faults.specs.ExpressionRows.{area_row, expr_row, passed_all, call_row, init_row}
 

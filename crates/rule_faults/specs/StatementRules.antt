@@ -1,12 +1,10 @@
 -- Rules 31 to 34 and 40 to 44: stores and copies, calls, what is allowed, and paths.
-use Rattle.std.specs.Prelude.{Bool, true, false, ◌&&◌, not, nat_eq, length, Option, Some, None, option_and_then}
-use Rattle.ivory_tree.specs.Syntax.{ExprSyntax, StmtSyntax, LetCall, Alloc, Store, Copy, Break, Return, CallSyntax}
-use Rattle.area_types.specs.Syntax.{ValueType, Ref}
+use Rattle.std.specs.Prelude.{Bool, false, ◌&&◌, not, nat_eq, length, Option, Some, None}
+use Rattle.ivory_tree.specs.Syntax.{LetCall, Alloc, Store, Copy, Break, Return}
 use Rattle.region_check.specs.Calls.{Reference, reference_of}
 use Rattle.control_effects.specs.Falling.{block_falls}
 use Rattle.source_types.specs.Values.{same_area}
 use Rattle.source_types.specs.Environments.{callee_named}
-use Rattle.rule_faults.specs.Contexts.{Context}
 use Rattle.rule_faults.specs.Types.{own_type}
 use Rattle.rule_faults.specs.Nodes.{Node, ABlock, AStatement, ACall}
 use Rattle.rule_faults.specs.Tests.{where_there, where_both}

@@ -1,5 +1,5 @@
 -- Tests of what may be missing: a rule that speaks of a type is broken only where that type exists.
-use Rattle.std.specs.Prelude.{Bool, true, false, Option, Some, None}
+use Rattle.std.specs.Prelude.{Bool, false, Option, Some, None}
 
 abbrev pub where_there : {A : Type 0} → Option A → (A → Bool) → Bool
 where_there None test = false

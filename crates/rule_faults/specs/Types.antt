@@ -1,10 +1,9 @@
 -- The type of an expression, by its form alone, whether or not a rule is broken within it. None where a name, a field, bit data or the
 -- type of an operand that it needs is missing.
-use Rattle.std.specs.Prelude.{Bool, true, false, ◌||◌, not, if◌then◌else◌, ℤ, Option, Some, None, option_map, option_and_then}
-use Rattle.ivory_tree.specs.Syntax as syntax
+use Rattle.std.specs.Prelude.{Bool, ◌||◌, not, if◌then◌else◌, Option, Some, None, option_and_then}
 use Rattle.ivory_tree.specs.Syntax.{ExprSyntax, Literal, Truth, Outcome, Variable, Cast, ToIndex, WrapIndex, MakeBits, Raw, SetField, Prefix, Binary, Field, Element, Cond, Bare}
 use Rattle.ivory_tree.specs.declared.expr.PrefixOp.{PrefixOp}
-use Rattle.ivory_tree.specs.declared.expr.PrefixOp.TheVariants.{Neg, Not, Flip, Deref}
+use Rattle.ivory_tree.specs.declared.expr.PrefixOp.TheVariants.{Not, Deref}
 use Rattle.area_types.specs.Syntax as types
 use Rattle.area_types.specs.Syntax.{ValueType}
 use Rattle.source_types.specs.Values.{holds, is_bit_data}

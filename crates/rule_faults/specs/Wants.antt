@@ -1,13 +1,13 @@
 -- What is wanted of an expression, and of its operands.
-use Rattle.std.specs.Prelude.{Bool, true, false, if◌then◌else◌, List, [], ◌∷◌, Option, Some, None, option_and_then, option_map}
+use Rattle.std.specs.Prelude.{if◌then◌else◌, List, Option, Some, None, option_and_then, option_map}
 use Rattle.iv_words.specs.declared.IntKind.{IntKind}
 use Rattle.ivory_tree.specs.Syntax.{Word, ExprSyntax}
 use Rattle.ivory_tree.specs.declared.expr.BinOp.{BinOp}
 use Rattle.ivory_tree.specs.declared.expr.PrefixOp.{PrefixOp}
-use Rattle.ivory_tree.specs.declared.expr.PrefixOp.TheVariants.{Neg, Not, Flip, Deref}
-use Rattle.area_types.specs.Syntax.{ValueType, Truth, Int, Ix, Bits, Ref, Area}
+use Rattle.ivory_tree.specs.declared.expr.PrefixOp.TheVariants.{Not, Deref}
+use Rattle.area_types.specs.Syntax.{ValueType, Truth, Int, Ix, Ref}
 use Rattle.area_types.specs.declared.region.Region.{Region}
-use Rattle.region_check.specs.Calls.{Reference, reference_of, Passed}
+use Rattle.region_check.specs.Calls.{Reference, Passed}
 use Rattle.region_check.specs.Faults.{known, required}
 use Rattle.source_types.specs.Operators.{is_logic, is_comparison}
 use Rattle.source_types.specs.Settled.{settled}

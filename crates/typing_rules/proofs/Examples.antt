@@ -1,9 +1,8 @@
 -- The small module stands for its core, and what is not well typed has no case.
-use Rattle.std.proofs.Common.{◌≡◌, ℕ, ℤ, pos, true, false, List, [], ◌∷◌, Option, Some, None, refl, sym, ◌∙◌, ap, IsTrue}
-use Rattle.iv_words.specs.declared.Span.{Span}
+use Rattle.std.proofs.Common.{◌≡◌, pos, [], ◌∷◌, Some, refl, sym, ◌∙◌, ap}
 use Rattle.ivory_tree.specs.Syntax as syntax
 use Rattle.ivory_tree.specs.Syntax.{ExprSyntax, CallSyntax, StmtSyntax, StmtsSyntax}
-use Rattle.area_types.specs.Syntax.{ValueType, Area, Int, Ref}
+use Rattle.area_types.specs.Syntax.{Int}
 use Rattle.core_tree.specs.Syntax.{ExprCore, CallCore, StmtCore, StmtsCore, type_of}
 use Rattle.area_types.specs.declared.region.Region.TheVariants.{Param, Own}
 use Rattle.region_check.specs.Calls.{reference_of}
@@ -18,13 +17,12 @@ use Rattle.typing_rules.specs.WellTyped.{at_header}
 use Rattle.typing_rules.specs.Environments.{Env}
 use Rattle.typing_rules.specs.Expressions as rule
 use Rattle.typing_rules.specs.Expressions.{Has, Under}
-use Rattle.typing_rules.specs.Calls.{Calls}
 use Rattle.typing_rules.specs.Statements as stands
 use Rattle.typing_rules.specs.Statements.{Returns, Stands, StandAll, StandsBlock}
 use Rattle.typing_rules.specs.Items as item
 use Rattle.typing_rules.specs.WellTyped as module_rule
 use Rattle.typing_rules.specs.WellTyped.{StandsFor}
-use Rattle.typing_rules.specs.Examples.{added, added_header, added_proc, sum, sum_label, sum_core, added_core, AddedStands, LiteralsWantTypes, LiteralsFit, OwnStays, BreaksAreAllowed, ReturnsEnd, CallsGoBack}
+use Rattle.typing_rules.specs.Examples.{added, added_header, added_proc, sum, sum_label, sum_core, AddedStands, LiteralsWantTypes, LiteralsFit, OwnStays, BreaksAreAllowed, ReturnsEnd, CallsGoBack}
 
 some_injective : {A : Type 0} {x y : A} → Some x ≡ Some y → x ≡ y
 some_injective h = cc
@@ -72,7 +70,8 @@ added_stands = record {
     header = record {
       unused = refl;
       params_stand = item.more_params refl refl (record { exists = refl; small = refl }) (item.more_params refl refl (record { exists = refl; small = refl }) item.no_params);
-      result_stands = item.a_result (record { exists = refl; small = refl }) };
+      result_stands = item.a_result (record { exists = refl; small = refl });
+    };
     plain = λ h. refl;
     contracts = item.no_contracts;
     body = stands.braces (stands.last_stands (stands.return_stands refl (stands.value refl (rule.has sum_has refl))));
@@ -80,10 +79,12 @@ added_stands = record {
     name = refl;
     exported = refl;
     params = refl;
-    locals = refl }) module_rule.no_items;
+    locals = refl;
+  }) module_rule.no_items;
   structs = refl;
   words = refl;
   sites = sum_label.checks;
-  numbered = record { all = IsPermutation-refl _; ascending = (tt, tt); numbered = (refl, tt) } }
+  numbered = record { all = IsPermutation-refl _; ascending = (tt, tt); numbered = (refl, tt) };
+}
 
 pub ruleset examples = (added_stands, own_stays, literals_want_types, literals_fit, breaks_are_allowed, returns_end, calls_go_back)

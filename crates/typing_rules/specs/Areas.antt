@@ -1,5 +1,5 @@
 -- Areas and types that a program may name: they exist, and each area has at most 65,535 bytes on t32 and 32 levels.
-use Rattle.std.specs.Prelude.{◌≡◌, Bool, true, false, Some, IsTrue, List}
+use Rattle.std.specs.Prelude.{◌≡◌, Bool, true, Some, IsTrue, List}
 use Rattle.ivory_tree.specs.Syntax.{Word, AreaSyntax, TypeSyntax}
 use Rattle.area_types.specs.Syntax.{ValueType, Area, Ref}
 use Rattle.area_types.specs.Trees.{Written, tree_of, trees_of}

@@ -1,6 +1,6 @@
 -- What is in scope where a program is typed, and how locals are numbered: parameters first, and then the names of `let`, `alloc` and loops
 -- in the order of the text.
-use Rattle.std.specs.Prelude.{ℕ, Bool, true, false, ◌||◌, not, List, [], ◌∷◌, ◌++◌, length, filter, Option, Some, None}
+use Rattle.std.specs.Prelude.{ℕ, Bool, true, false, ◌||◌, not, List, [], ◌∷◌, ◌++◌, length, filter, Option}
 use Rattle.std.specs.List.{list_any, find, position_from}
 use Rattle.iv_words.specs.Words.{same_word}
 use Rattle.ivory_tree.specs.Syntax.{Word}

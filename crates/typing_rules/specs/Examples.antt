@@ -1,18 +1,16 @@
 -- A small module with its core, and what is not well typed.
-use Rattle.std.specs.Prelude.{◌≡◌, ℕ, ℤ, pos, true, false, [], ◌∷◌, Option, Some, None, codes}
+use Rattle.std.specs.Prelude.{◌≡◌, ℤ, pos, true, false, [], ◌∷◌, Option, Some, None, codes}
 use Rattle.iv_words.specs.declared.IntKind.TheVariants.{U8}
 use Rattle.iv_words.specs.declared.Span.{Span}
 use Rattle.ivory_tree.specs.Syntax as syntax
 use Rattle.ivory_tree.specs.Syntax.{ExprSyntax, CallSyntax, StmtSyntax, StmtsSyntax, HeaderSyntax, ProcSyntax, ModuleSyntax}
 use Rattle.ivory_tree.specs.declared.expr.BinOp.TheVariants.{Add, Mul}
-use Rattle.area_types.specs.Syntax as types
 use Rattle.area_types.specs.Syntax.{ValueType, Area, Int, Ref}
-use Rattle.area_types.specs.declared.region.Region.{Region}
 use Rattle.area_types.specs.declared.region.Region.TheVariants.{Param, Own}
 use Rattle.core_tree.specs.Syntax as core
 use Rattle.core_tree.specs.Syntax.{Label, ExprCore, CallCore, StmtCore, StmtsCore, ModuleCore, type_of}
 use Rattle.core_tree.specs.declared.SiteKind.TheVariants as site
-use Rattle.source_types.specs.Short.{span, name, byte, variable, number, block, param, header, procedure, module_m}
+use Rattle.source_types.specs.Short.{span, name, byte, variable, block, param, header, module_m}
 use Rattle.source_types.specs.Environments.{callee_named}
 use Rattle.typing_rules.specs.Environments.{Env}
 use Rattle.typing_rules.specs.Sites.{unchecked}
@@ -49,10 +47,15 @@ added_core = record {
   areas = [];
   imports = [];
   procs = record {
-    name = codes "f"; exported = true;
+    name = codes "f";
+    exported = true;
     params = record { name = codes "a"; ty = Int U8 } ∷ record { name = codes "b"; ty = Int U8 } ∷ [];
-    result = Some (Int U8); contracts = []; locals = Int U8 ∷ Int U8 ∷ [];
-    body = core.MoreStmts (core.Return (Some sum_core)) core.NoStmts } ∷ [] }
+    result = Some (Int U8);
+    contracts = [];
+    locals = Int U8 ∷ Int U8 ∷ [];
+    body = core.MoreStmts (core.Return (Some sum_core)) core.NoStmts;
+  } ∷ [];
+}
 
 abbrev pub AddedStands : Type 0
 AddedStands = StandsFor added added_core

@@ -1,5 +1,5 @@
 -- Initializers of areas: one expression for a stored value, braces for an array or struct with at most as many elements as places.
-use Rattle.std.specs.Prelude.{◌≡◌, ℕ, suc, ◌*◌, ◌-◌, ℤ, pos, int_le, Bool, true, false, ◌&&◌, List, [], ◌∷◌, ◌++◌, replicate, Option, Some, None, slice_get}
+use Rattle.std.specs.Prelude.{◌≡◌, ℕ, suc, ◌*◌, ◌-◌, ℤ, pos, int_le, Bool, true, false, ◌&&◌, List, [], ◌∷◌, ◌++◌, replicate, Some, slice_get}
 use Rattle.iv_words.specs.declared.Span.{Span}
 use Rattle.ivory_tree.specs.Syntax as syntax
 use Rattle.ivory_tree.specs.Syntax.{ExprSyntax, Literal, Truth, MakeBits, InitSyntax, InitsSyntax}
@@ -18,19 +18,19 @@ mutual
     stored : {env : Env} {t : ValueType} {e : ExprSyntax} {c : ExprCore} → Under env t e c → Fills env (Stored t) (syntax.One e) (core.One c)
     array : {env : Env} {n : ℕ} {element : Area} {s : Span} {inits : InitsSyntax} {cs : InitsCore} → FillElements env n element inits cs → Fills env (Array n element) (syntax.Many s inits) (core.Many cs)
     struct : {env : Env} {k : ℕ} {struct_type : StructType} {s : Span} {inits : InitsSyntax} {cs : InitsCore} → slice_get env.earlier.structs k ≡ Some struct_type → FillFields env struct_type.fields inits cs
-      → Fills env (Struct k) (syntax.Many s inits) (core.Many cs)
+        → Fills env (Struct k) (syntax.Many s inits) (core.Many cs)
 
   -- the first so many elements
   pub data FillElements : Env → ℕ → Area → InitsSyntax → InitsCore → Type 0 where
     no_elements : {env : Env} {n : ℕ} {element : Area} → FillElements env n element syntax.NoInits core.NoInits
     more_elements : {env : Env} {n : ℕ} {element : Area} {i : InitSyntax} {is : InitsSyntax} {c : InitCore} {cs : InitsCore} → Fills env element i c → FillElements env n element is cs
-      → FillElements env (suc n) element (syntax.MoreInits i is) (core.MoreInits c cs)
+        → FillElements env (suc n) element (syntax.MoreInits i is) (core.MoreInits c cs)
 
   -- the fields in order
   pub data FillFields : Env → List types.Field → InitsSyntax → InitsCore → Type 0 where
     no_fields : {env : Env} {fields : List types.Field} → FillFields env fields syntax.NoInits core.NoInits
     more_fields : {env : Env} {f : types.Field} {fields : List types.Field} {i : InitSyntax} {is : InitsSyntax} {c : InitCore} {cs : InitsCore} → Fills env f.area i c → FillFields env fields is cs
-      → FillFields env (f ∷ fields) (syntax.MoreInits i is) (core.MoreInits c cs)
+        → FillFields env (f ∷ fields) (syntax.MoreInits i is) (core.MoreInits c cs)
 
 -- ---- areas of the module
 

@@ -1,9 +1,8 @@
 -- Which items stand after earlier ones, and their cores.
-use Rattle.std.specs.Prelude.{◌≡◌, ℕ, ℤ, Bool, true, false, ◌&&◌, not, List, [], ◌∷◌, ◌++◌, length, map, Option, Some, None, is_some, IsTrue, Result, Ok}
+use Rattle.std.specs.Prelude.{◌≡◌, ℕ, ℤ, Bool, true, false, ◌&&◌, not, List, [], ◌∷◌, ◌++◌, length, map, Option, Some, None, is_some, IsTrue, Ok}
 use Rattle.std.specs.List.{list_all}
 use Rattle.iv_script.specs.declared.Plain.{Plain}
 use Rattle.iv_script.specs.declared.Plain.TheVariants as plain
-use Rattle.ivory_tree.specs.Syntax as syntax
 use Rattle.ivory_tree.specs.Syntax.{Word, TypeSyntax, InitSyntax, FieldSyntax, StructSyntax, GlobalSyntax, ParamSyntax, HeaderSyntax, ContractSyntax, ProcSyntax}
 use Rattle.ivory_tree.specs.declared.items.BitField.{BitField}
 use Rattle.ivory_tree.specs.declared.items.BitsItem.{BitsItem}
@@ -17,12 +16,11 @@ use Rattle.bit_data.specs.Layouts.{laid_out}
 use Rattle.bit_data.specs.declared.FieldWish.{FieldWish}
 use Rattle.bit_data.specs.declared.BitLayout.{BitLayout}
 use Rattle.control_effects.specs.Falling.{block_falls}
-use Rattle.core_tree.specs.Syntax.{ExprCore, InitCore, AreaCore, ImportCore, ParamCore, ContractCore, ProcCore}
+use Rattle.core_tree.specs.Syntax.{InitCore, AreaCore, ImportCore, ParamCore, ContractCore, ProcCore}
 use Rattle.core_tree.specs.declared.SiteKind.{SiteKind}
 use Rattle.core_tree.specs.declared.SiteKind.TheVariants as site
 use Rattle.source_types.specs.Values.{is_plain}
 use Rattle.source_types.specs.Environments.{Earlier, words, has_word, is_item, is_type_name}
-use Rattle.source_types.specs.Written.{regions_of}
 use Rattle.typing_rules.specs.Environments.{Env, with_local}
 use Rattle.typing_rules.specs.Sites.{first_token}
 use Rattle.typing_rules.specs.Expressions.{Under}
@@ -45,7 +43,7 @@ pub record StandsBits (earlier : Earlier) (i : BitsItem) (layout : BitLayout) : 
 pub data Fields (earlier : Earlier) : List Word → List FieldSyntax → List Field → Type 0 where
   no_fields : {before : List Word} → Fields earlier before [] []
   more_fields : {before : List Word} {f : FieldSyntax} {fields : List FieldSyntax} {area : Area} {rest : List Field} → has_word before f.name.text ≡ false → NamesArea earlier f.area area
-    → Fields earlier (before ++ f.name.text ∷ []) fields rest → Fields earlier before (f ∷ fields) (record { name = f.name.text; area = area } ∷ rest)
+      → Fields earlier (before ++ f.name.text ∷ []) fields rest → Fields earlier before (f ∷ fields) (record { name = f.name.text; area = area } ∷ rest)
 
 pub record StandsStruct (earlier : Earlier) (i : StructSyntax) : Type 0 where
   pub unused : is_type_name earlier i.name.text ≡ false
@@ -73,7 +71,7 @@ pub record StandsArea (env : Env) (i : GlobalSyntax) (core : AreaCore) : Type 0 
 pub data Params (env : Env) : List Word → List ParamSyntax → List ValueType → Type 0 where
   no_params : {before : List Word} → Params env before [] []
   more_params : {before : List Word} {p : ParamSyntax} {params : List ParamSyntax} {t : ValueType} {ts : List ValueType} → has_word env.names p.name.text ≡ false → has_word before p.name.text ≡ false
-    → NamesType env.earlier env.regions p.ty t → Params env (before ++ p.name.text ∷ []) params ts → Params env before (p ∷ params) (t ∷ ts)
+      → NamesType env.earlier env.regions p.ty t → Params env (before ++ p.name.text ∷ []) params ts → Params env before (p ∷ params) (t ∷ ts)
 
 -- the region of a result is global or that of a parameter
 pub data Results (env : Env) : Option TypeSyntax → Option ValueType → Type 0 where

@@ -1,5 +1,5 @@
 -- Which statements stand, what is known after each, and its core.
-use Rattle.std.specs.Prelude.{◌≡◌, ℕ, Bool, true, false, Option, Some, None, IsTrue, List, []}
+use Rattle.std.specs.Prelude.{◌≡◌, ℕ, true, false, Option, Some, None, IsTrue}
 use Rattle.iv_words.specs.declared.Name.{Name}
 use Rattle.iv_words.specs.declared.Span.{Span}
 use Rattle.ivory_tree.specs.Syntax as syntax
@@ -20,7 +20,7 @@ use Rattle.core_tree.specs.declared.Check.{Check}
 use Rattle.core_tree.specs.declared.SiteKind.{SiteKind}
 use Rattle.core_tree.specs.declared.SiteKind.TheVariants as site
 use Rattle.typing_rules.specs.Environments.{Env, is_free, next, with_local, after_block}
-use Rattle.typing_rules.specs.Sites.{Carries, first_token}
+use Rattle.typing_rules.specs.Sites.{first_token}
 use Rattle.typing_rules.specs.Expressions.{Has, Under}
 use Rattle.typing_rules.specs.Calls.{Calls}
 use Rattle.typing_rules.specs.Areas.{NamesArea}
@@ -69,30 +69,30 @@ pub data Returns (env : Env) : Option ValueType → Option ExprSyntax → Option
   nothing : Returns env None None None
   value : {t : ValueType} {e : ExprSyntax} {c : ExprCore} → reference_of t ≡ None → Under env t e c → Returns env (Some t) (Some e) (Some c)
   reference : {t : ValueType} {wanted given : Reference} {e : ExprSyntax} {c : ExprCore} → reference_of t ≡ Some wanted → Has env e c → reference_of (type_of c) ≡ Some given → Fits wanted given
-    → Returns env (Some t) (Some e) (Some c)
+      → Returns env (Some t) (Some e) (Some c)
 
 mutual
   pub data Stands : Env → StmtSyntax → Env → StmtCore → Type 0 where
     let_stands : {env : Env} {s : Span} {name : Name} {e : ExprSyntax} {c : ExprCore} → is_free env name.text ≡ true → Has env e c → Stands env (syntax.Let s name e) (with_local env name.text (type_of c)) (core.Let (next env) c)
     let_call_stands : {env : Env} {s : Span} {name : Name} {call : CallSyntax} {c : CallCore} {t : ValueType} → is_free env name.text ≡ true → Calls env call c (Some t)
-      → Stands env (syntax.LetCall s name call) (with_local env name.text t) (core.LetCall (next env) c)
+        → Stands env (syntax.LetCall s name call) (with_local env name.text t) (core.LetCall (next env) c)
     alloc_stands : {env : Env} {s : Span} {name : Name} {text : AreaSyntax} {area : Area} {init : Option InitSyntax} {c : Option InitCore} → env.allowed.may_alloc ≡ true → is_free env name.text ≡ true → NamesArea env.earlier text area
-      → MayFill env area init c → Stands env (syntax.Alloc s name text init) (with_local env name.text (own area)) (core.Alloc (next env) area c)
+        → MayFill env area init c → Stands env (syntax.Alloc s name text init) (with_local env name.text (own area)) (core.Alloc (next env) area c)
     store_stands : {env : Env} {s : Span} {target value : ExprSyntax} {c d : ExprCore} {region : Region} {t : ValueType} → Has env target c → type_of c ≡ Ref false region (types.Stored t) → Under env t value d
-      → Stands env (syntax.Store s target value) env (core.Store c d)
+        → Stands env (syntax.Store s target value) env (core.Store c d)
     copy_stands : {env : Env} {s : Span} {target source : ExprSyntax} {c d : ExprCore} → Has env target c → Has env source d → Copies c d → Stands env (syntax.Copy s target source) env (core.Copy c d)
     -- a result may be dropped
     call_stands : {env : Env} {s : Span} {call : CallSyntax} {c : CallCore} {result : Option ValueType} → Calls env call c result → Stands env (syntax.Call s call) env (core.Call c)
     if_stands : {env last : Env} {s : Span} {test : ExprSyntax} {first : BlockSyntax} {c : ExprCore} {p : StmtsCore} → Under env types.Truth test c → StandsBlock env first last p
-      → Stands env (syntax.If s test first) (after_block env last) (core.If c p)
+        → Stands env (syntax.If s test first) (after_block env last) (core.If c p)
     if_else_stands : {env last end : Env} {s : Span} {test : ExprSyntax} {first second : BlockSyntax} {c : ExprCore} {p q : StmtsCore} → Under env types.Truth test c → StandsBlock env first last p
-      → StandsBlock (after_block env last) second end q → Stands env (syntax.IfElse s test first second) (after_block env end) (core.IfElse c p q)
+        → StandsBlock (after_block env last) second end q → Stands env (syntax.IfElse s test first second) (after_block env end) (core.IfElse c p q)
     map_stands : {env last : Env} {s : Span} {name : Name} {n : ℕ} {body : BlockSyntax} {p : StmtsCore} → is_free env name.text ≡ true → IsTrue (is_length n) → StandsBlock (in_counted env name n) body last p
-      → Stands env (syntax.Map s name n body) (after_block env last) (core.Map (next env) n p)
+        → Stands env (syntax.Map s name n body) (after_block env last) (core.Map (next env) n p)
     upto_stands : {env last : Env} {s : Span} {name : Name} {n : ℕ} {bound : ExprSyntax} {body : BlockSyntax} {c : ExprCore} {p : StmtsCore} → is_free env name.text ≡ true → IsTrue (is_length n) → Under env (Ix n) bound c
-      → StandsBlock (in_counted env name n) body last p → Stands env (syntax.Upto s name n bound body) (after_block env last) (core.Upto (next env) n c p)
+        → StandsBlock (in_counted env name n) body last p → Stands env (syntax.Upto s name n bound body) (after_block env last) (core.Upto (next env) n c p)
     downto_stands : {env last : Env} {s : Span} {name : Name} {n : ℕ} {bound : ExprSyntax} {body : BlockSyntax} {c : ExprCore} {p : StmtsCore} → is_free env name.text ≡ true → IsTrue (is_length n) → Under env (Ix n) bound c
-      → StandsBlock (in_counted env name n) body last p → Stands env (syntax.Downto s name n bound body) (after_block env last) (core.Downto (next env) n c p)
+        → StandsBlock (in_counted env name n) body last p → Stands env (syntax.Downto s name n bound body) (after_block env last) (core.Downto (next env) n c p)
     forever_stands : {env last : Env} {s : Span} {body : BlockSyntax} {p : StmtsCore} → StandsBlock (in_loop env) body last p → Stands env (syntax.Forever s body) (after_block env last) (core.Forever p)
     break_stands : {env : Env} {s : Span} → env.allowed.may_break ≡ true → Stands env (syntax.Break s) env core.Break
     return_stands : {env : Env} {s : Span} {value : Option ExprSyntax} {c : Option ExprCore} → env.allowed.may_return ≡ true → Returns env env.result value c → Stands env (syntax.Return s value) env (core.Return c)
@@ -110,4 +110,4 @@ mutual
     last_stands : {env after : Env} {s : StmtSyntax} {c : StmtCore} → Stands env s after c → StandAll env (syntax.MoreStmts s syntax.NoStmts) after (core.MoreStmts c core.NoStmts)
     -- the next one is reached
     more_stand : {env after end : Env} {s next_one : StmtSyntax} {rest : StmtsSyntax} {c : StmtCore} {p : StmtsCore} → Stands env s after c → stmt_falls s ≡ true → StandAll after (syntax.MoreStmts next_one rest) end p
-      → StandAll env (syntax.MoreStmts s (syntax.MoreStmts next_one rest)) end (core.MoreStmts c p)
+        → StandAll env (syntax.MoreStmts s (syntax.MoreStmts next_one rest)) end (core.MoreStmts c p)

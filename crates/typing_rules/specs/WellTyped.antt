@@ -1,5 +1,5 @@
 -- Which modules are well typed: those for which some core stands.
-use Rattle.std.specs.Prelude.{◌≡◌, Bool, true, false, List, [], ◌∷◌, Option, None}
+use Rattle.std.specs.Prelude.{◌≡◌, true, false, List, [], ◌∷◌, None}
 use Rattle.ivory_tree.specs.Syntax.{Word, ItemSyntax, BitsData, Struct, Global, Import, Procedure, GlobalSyntax, HeaderSyntax, ProcSyntax, StructSyntax, ModuleSyntax}
 use Rattle.ivory_tree.specs.declared.items.BitsItem.{BitsItem}
 use Rattle.area_types.specs.Tables.{structs_of}
@@ -30,15 +30,15 @@ at_header names earlier h = record (outside names earlier) { regions = regions_o
 pub data StandItems (names : List Word) : Earlier → List ItemSyntax → (end : Earlier) → List BitLayout → List AreaCore → List ImportCore → List ProcCore → Type 0 where
   no_items : {earlier : Earlier} → StandItems names earlier [] earlier [] [] [] []
   bits : {earlier end : Earlier} {i : BitsItem} {items : List ItemSyntax} {b : BitLayout} {bs : List BitLayout} {as' : List AreaCore} {is : List ImportCore} {ps : List ProcCore} → StandsBits earlier i b
-    → StandItems names (after earlier (BitsData i)) items end bs as' is ps → StandItems names earlier (BitsData i ∷ items) end (b ∷ bs) as' is ps
+      → StandItems names (after earlier (BitsData i)) items end bs as' is ps → StandItems names earlier (BitsData i ∷ items) end (b ∷ bs) as' is ps
   struct : {earlier end : Earlier} {i : StructSyntax} {items : List ItemSyntax} {bs : List BitLayout} {as' : List AreaCore} {is : List ImportCore} {ps : List ProcCore} → StandsStruct earlier i
-    → StandItems names (after earlier (Struct i)) items end bs as' is ps → StandItems names earlier (Struct i ∷ items) end bs as' is ps
+      → StandItems names (after earlier (Struct i)) items end bs as' is ps → StandItems names earlier (Struct i ∷ items) end bs as' is ps
   area : {earlier end : Earlier} {i : GlobalSyntax} {items : List ItemSyntax} {bs : List BitLayout} {a : AreaCore} {as' : List AreaCore} {is : List ImportCore} {ps : List ProcCore} → StandsArea (outside names earlier) i a
-    → StandItems names (after earlier (Global i)) items end bs as' is ps → StandItems names earlier (Global i ∷ items) end bs (a ∷ as') is ps
+      → StandItems names (after earlier (Global i)) items end bs as' is ps → StandItems names earlier (Global i ∷ items) end bs (a ∷ as') is ps
   import : {earlier end : Earlier} {h : HeaderSyntax} {items : List ItemSyntax} {bs : List BitLayout} {as' : List AreaCore} {i : ImportCore} {is : List ImportCore} {ps : List ProcCore} → StandsImport (at_header names earlier h) h i
-    → StandItems names (after earlier (Import h)) items end bs as' is ps → StandItems names earlier (Import h ∷ items) end bs as' (i ∷ is) ps
+      → StandItems names (after earlier (Import h)) items end bs as' is ps → StandItems names earlier (Import h ∷ items) end bs as' (i ∷ is) ps
   procedure : {earlier end : Earlier} {p : ProcSyntax} {items : List ItemSyntax} {bs : List BitLayout} {as' : List AreaCore} {is : List ImportCore} {c : ProcCore} {ps : List ProcCore} → StandsProc (at_header names earlier p.header) p c
-    → StandItems names (after earlier (Procedure p)) items end bs as' is ps → StandItems names earlier (Procedure p ∷ items) end bs as' is (c ∷ ps)
+      → StandItems names (after earlier (Procedure p)) items end bs as' is ps → StandItems names earlier (Procedure p ∷ items) end bs as' is (c ∷ ps)
 
 pub record StandsFor (m : ModuleSyntax) (core : ModuleCore) : Type 0 where
   pub end : Earlier

@@ -10,3 +10,5 @@ pub mod Items
 pub mod WellTyped
 pub mod Examples
 pub mod Laws
+pub mod Contexts
+pub mod TypesAgree

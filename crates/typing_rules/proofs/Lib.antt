@@ -1,2 +1,4 @@
 pub mod Examples
 pub mod TypesAgree
+pub mod Quiet
+pub mod Clean

@@ -24,7 +24,7 @@ use Rattle.typing_rules.specs.TypesAgree.{SettledAgree, WantedAgree}
 
 -- ---- names
 
-in_both : (name : Word) (ls : List Local) (l : Local) → find (λ (x : Local). same_word x.name name) ls ≡ Some l
+pub in_both : (name : Word) (ls : List Local) (l : Local) → find (λ (x : Local). same_word x.name name) ls ≡ Some l
   → (list_any (λ (x : faults.Local). same_word x.name name) (map local_of ls) ≡ true) × (find (λ (x : faults.Local). same_word x.name name) (map local_of ls) ≡ Some (local_of l))
 in_both name [] l h = let no : ⊥ = cc in absurd no
 in_both name (x ∷ ls) l h = go (in_both name ls l) (same_word x.name name) refl h
@@ -35,7 +35,7 @@ in_both name (x ∷ ls) l h = go (in_both name ls l) (same_word x.name name) ref
     go ih true e g = (rw e refl, let q : x ≡ l = cc in rw (e, q) refl)
     go ih false e g = (rw (e, (ih g).0) refl, rw (e, (ih g).1) refl)
 
-in_neither : (name : Word) (ls : List Local) → find (λ (x : Local). same_word x.name name) ls ≡ None → list_any (λ (x : faults.Local). same_word x.name name) (map local_of ls) ≡ false
+pub in_neither : (name : Word) (ls : List Local) → find (λ (x : Local). same_word x.name name) ls ≡ None → list_any (λ (x : faults.Local). same_word x.name name) (map local_of ls) ≡ false
 in_neither name [] h = refl
 in_neither name (x ∷ ls) h = go (in_neither name ls) (same_word x.name name) refl h
   where
@@ -59,7 +59,7 @@ right_or true y z h = refl
 right_or false true z h = refl
 right_or false false z h = h
 
-gives : (op : BinOp) → is_logic op ≡ true → gives_truth op ≡ true
+pub gives : (op : BinOp) → is_logic op ≡ true → gives_truth op ≡ true
 gives op h = rw h refl
 
 pub has_settled : {env : Env} {e : ExprSyntax} {c : ExprCore} → Has env e c → settled e ≡ true
@@ -94,10 +94,10 @@ prefix_same Flip x y h = refl
 prefix_same Not x y h = let no : ⊥ = cc in absurd no
 prefix_same Deref x y h = let no : ⊥ = cc in absurd no
 
-first_left : (left right : ExprSyntax) (x y : Option ValueType) → settled left ≡ true → first_type left right x y ≡ x
+pub first_left : (left right : ExprSyntax) (x y : Option ValueType) → settled left ≡ true → first_type left right x y ≡ x
 first_left left right x y h = rw h refl
 
-first_right : (left right : ExprSyntax) (x y : Option ValueType) → settled left ≡ false → settled right ≡ true → first_type left right x y ≡ y
+pub first_right : (left right : ExprSyntax) (x y : Option ValueType) → settled left ≡ false → settled right ≡ true → first_type left right x y ≡ y
 first_right left right x y h g = rw (h, g) refl
 
 first_unsettled : (left right : ExprSyntax) (x y : Option ValueType) → settled left ≡ false → settled right ≡ false → first_type left right x y ≡ x

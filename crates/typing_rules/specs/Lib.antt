@@ -12,3 +12,4 @@ pub mod Examples
 pub mod Laws
 pub mod Contexts
 pub mod TypesAgree
+pub mod Clean

@@ -1,6 +1,8 @@
-//! A small module with its core, and what is not well typed.
+//! A small module with its core, what is not well typed, and what is proved of typed expressions.
 
 ghost use Rattle.typing_rules.specs.Examples as example;
+ghost use Rattle.typing_rules.specs.TypesAgree.{SettledAgree, WantedAgree};
+ghost use Rattle.typing_rules.specs.Clean.{SettledIsClean, WantedIsClean};
 
 /// The module stands for its core.
 #[tactic(auto, using(crate::proofs::Examples::examples))]
@@ -23,4 +25,18 @@ pub fn statement_examples()
     ensures breaks { example.BreaksAreAllowed }
     ensures ends { example.ReturnsEnd }
     ensures back { example.CallsGoBack }
+{}
+
+/// Both definitions give an expression the same type.
+#[tactic(auto, using(crate::proofs::TypesAgree::agreement))]
+pub fn types_agree()
+    ensures settled { SettledAgree }
+    ensures wanted { WantedAgree }
+{}
+
+/// An expression that is typed breaks no rule.
+#[tactic(auto, using(crate::proofs::Clean::clean_laws))]
+pub fn typed_expressions_are_clean()
+    ensures settled { SettledIsClean }
+    ensures wanted { WantedIsClean }
 {}

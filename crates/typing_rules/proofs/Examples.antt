@@ -18,10 +18,10 @@ use Rattle.typing_rules.specs.Environments.{Env}
 use Rattle.typing_rules.specs.Expressions as rule
 use Rattle.typing_rules.specs.Expressions.{Has, Under}
 use Rattle.typing_rules.specs.Statements as stands
-use Rattle.typing_rules.specs.Statements.{Returns, Stands, StandAll, StandsBlock}
+use Rattle.typing_rules.specs.Statements.{Returns, StandsStmt, StandAll, StandsBlock}
 use Rattle.typing_rules.specs.Items as item
 use Rattle.typing_rules.specs.WellTyped as module_rule
-use Rattle.typing_rules.specs.WellTyped.{StandsFor}
+use Rattle.typing_rules.specs.WellTyped.{Stands}
 use Rattle.typing_rules.specs.Examples.{added, added_header, added_proc, sum, sum_label, sum_core, AddedStands, LiteralsWantTypes, LiteralsFit, OwnStays, BreaksAreAllowed, ReturnsEnd, CallsGoBack}
 
 some_injective : {A : Type 0} {x y : A} → Some x ≡ Some y → x ≡ y

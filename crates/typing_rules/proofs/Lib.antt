@@ -2,3 +2,4 @@ pub mod Examples
 pub mod TypesAgree
 pub mod Quiet
 pub mod Clean
+pub mod CleanCalls

@@ -20,11 +20,11 @@ use Rattle.rule_faults.specs.FirstFault.{rules, least_broken, first_of, at_node}
 
 -- ---- rows
 
-abbrev AllFalse : List (Node → Bool) → Node → Type 0
+abbrev pub AllFalse : List (Node → Bool) → Node → Type 0
 AllFalse [] n = Unit {0}
 AllFalse (r ∷ rs) n = (r n ≡ false) × AllFalse rs n
 
-none_at : (i : ℕ) (rs : List (Node → Bool)) (n : Node) → AllFalse rs n → position_from (λ rule. rule n) i rs ≡ None
+pub none_at : (i : ℕ) (rs : List (Node → Bool)) (n : Node) → AllFalse rs n → position_from (λ rule. rule n) i rs ≡ None
 none_at i [] n h = refl
 none_at i (r ∷ rs) n h = rw h.0 (none_at (i + 1) rs n h.1)
 
@@ -74,7 +74,7 @@ truth_same false = refl
 kind_same : (k : IntKind) → same_kind k k ≡ true
 kind_same k = rw (nat_same (width k), truth_same (is_signed k)) refl
 
-region_same : (r : Region) → same_region r r ≡ true
+pub region_same : (r : Region) → same_region r r ≡ true
 region_same Global = refl
 region_same (Param j) = nat_same j
 region_same Own = refl

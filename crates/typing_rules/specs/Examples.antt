@@ -17,8 +17,8 @@ use Rattle.typing_rules.specs.Sites.{unchecked}
 use Rattle.typing_rules.specs.Wholes.{is_chain_prefix}
 use Rattle.typing_rules.specs.Expressions.{Has, Under}
 use Rattle.typing_rules.specs.Calls.{Calls}
-use Rattle.typing_rules.specs.Statements.{Returns, Stands, StandAll}
-use Rattle.typing_rules.specs.WellTyped.{StandsFor}
+use Rattle.typing_rules.specs.Statements.{Returns, StandsStmt, StandAll}
+use Rattle.typing_rules.specs.WellTyped.{Stands}
 
 -- `a + b`, whose operator carries check 0
 abbrev pub sum : ExprSyntax
@@ -58,7 +58,7 @@ added_core = record {
 }
 
 abbrev pub AddedStands : Type 0
-AddedStands = StandsFor added added_core
+AddedStands = Stands added added_core
 
 -- no literal has a type by itself, and none has a type that does not hold it
 abbrev pub LiteralsWantTypes : Type 0
@@ -73,7 +73,7 @@ OwnStays = (env : Env) (area : Area) (e : ExprSyntax) (c : ExprCore) → type_of
 
 -- a break needs its permission
 abbrev pub BreaksAreAllowed : Type 0
-BreaksAreAllowed = (env after : Env) (s : Span) (c : StmtCore) → env.allowed.may_break ≡ false → Stands env (syntax.Break s) after c → ⊥
+BreaksAreAllowed = (env after : Env) (s : Span) (c : StmtCore) → env.allowed.may_break ≡ false → StandsStmt env (syntax.Break s) after c → ⊥
 
 -- nothing stands after a return
 abbrev pub ReturnsEnd : Type 0

@@ -6,7 +6,7 @@ use Rattle.ivory_tree.specs.Syntax.{ModuleSyntax}
 use Rattle.ivory_tree.specs.Formed.{Formed}
 use Rattle.core_tree.specs.Syntax.{ModuleCore}
 use Rattle.rule_faults.specs.FirstFault.{FirstFault}
-use Rattle.typing_rules.specs.WellTyped.{StandsFor, WellTyped}
+use Rattle.typing_rules.specs.WellTyped.{Stands, WellTyped}
 
 pub record Faulty (m : ModuleSyntax) : Type 0 where
   pub rule : ℕ
@@ -17,4 +17,4 @@ abbrev pub ExactlyOne : Type 0
 ExactlyOne = (m : ModuleSyntax) → Formed m → (WellTyped m ⊎ Faulty m) × (WellTyped m → Faulty m → ⊥)
 
 abbrev pub OneCore : Type 0
-OneCore = (m : ModuleSyntax) (c d : ModuleCore) → StandsFor m c → StandsFor m d → c ≡ d
+OneCore = (m : ModuleSyntax) (c d : ModuleCore) → Stands m c → Stands m d → c ≡ d

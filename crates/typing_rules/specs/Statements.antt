@@ -72,34 +72,34 @@ pub data Returns (env : Env) : Option ValueType → Option ExprSyntax → Option
       → Returns env (Some t) (Some e) (Some c)
 
 mutual
-  pub data Stands : Env → StmtSyntax → Env → StmtCore → Type 0 where
-    let_stands : {env : Env} {s : Span} {name : Name} {e : ExprSyntax} {c : ExprCore} → is_free env name.text ≡ true → Has env e c → Stands env (syntax.Let s name e) (with_local env name.text (type_of c)) (core.Let (next env) c)
+  pub data StandsStmt : Env → StmtSyntax → Env → StmtCore → Type 0 where
+    let_stands : {env : Env} {s : Span} {name : Name} {e : ExprSyntax} {c : ExprCore} → is_free env name.text ≡ true → Has env e c → StandsStmt env (syntax.Let s name e) (with_local env name.text (type_of c)) (core.Let (next env) c)
     let_call_stands : {env : Env} {s : Span} {name : Name} {call : CallSyntax} {c : CallCore} {t : ValueType} → is_free env name.text ≡ true → Calls env call c (Some t)
-        → Stands env (syntax.LetCall s name call) (with_local env name.text t) (core.LetCall (next env) c)
+        → StandsStmt env (syntax.LetCall s name call) (with_local env name.text t) (core.LetCall (next env) c)
     alloc_stands : {env : Env} {s : Span} {name : Name} {text : AreaSyntax} {area : Area} {init : Option InitSyntax} {c : Option InitCore} → env.allowed.may_alloc ≡ true → is_free env name.text ≡ true → NamesArea env.earlier text area
-        → MayFill env area init c → Stands env (syntax.Alloc s name text init) (with_local env name.text (own area)) (core.Alloc (next env) area c)
+        → MayFill env area init c → StandsStmt env (syntax.Alloc s name text init) (with_local env name.text (own area)) (core.Alloc (next env) area c)
     store_stands : {env : Env} {s : Span} {target value : ExprSyntax} {c d : ExprCore} {region : Region} {t : ValueType} → Has env target c → type_of c ≡ Ref false region (types.Stored t) → Under env t value d
-        → Stands env (syntax.Store s target value) env (core.Store c d)
-    copy_stands : {env : Env} {s : Span} {target source : ExprSyntax} {c d : ExprCore} → Has env target c → Has env source d → Copies c d → Stands env (syntax.Copy s target source) env (core.Copy c d)
+        → StandsStmt env (syntax.Store s target value) env (core.Store c d)
+    copy_stands : {env : Env} {s : Span} {target source : ExprSyntax} {c d : ExprCore} → Has env target c → Has env source d → Copies c d → StandsStmt env (syntax.Copy s target source) env (core.Copy c d)
     -- a result may be dropped
-    call_stands : {env : Env} {s : Span} {call : CallSyntax} {c : CallCore} {result : Option ValueType} → Calls env call c result → Stands env (syntax.Call s call) env (core.Call c)
+    call_stands : {env : Env} {s : Span} {call : CallSyntax} {c : CallCore} {result : Option ValueType} → Calls env call c result → StandsStmt env (syntax.Call s call) env (core.Call c)
     if_stands : {env last : Env} {s : Span} {test : ExprSyntax} {first : BlockSyntax} {c : ExprCore} {p : StmtsCore} → Under env types.Truth test c → StandsBlock env first last p
-        → Stands env (syntax.If s test first) (after_block env last) (core.If c p)
+        → StandsStmt env (syntax.If s test first) (after_block env last) (core.If c p)
     if_else_stands : {env last end : Env} {s : Span} {test : ExprSyntax} {first second : BlockSyntax} {c : ExprCore} {p q : StmtsCore} → Under env types.Truth test c → StandsBlock env first last p
-        → StandsBlock (after_block env last) second end q → Stands env (syntax.IfElse s test first second) (after_block env end) (core.IfElse c p q)
+        → StandsBlock (after_block env last) second end q → StandsStmt env (syntax.IfElse s test first second) (after_block env end) (core.IfElse c p q)
     map_stands : {env last : Env} {s : Span} {name : Name} {n : ℕ} {body : BlockSyntax} {p : StmtsCore} → is_free env name.text ≡ true → IsTrue (is_length n) → StandsBlock (in_counted env name n) body last p
-        → Stands env (syntax.Map s name n body) (after_block env last) (core.Map (next env) n p)
+        → StandsStmt env (syntax.Map s name n body) (after_block env last) (core.Map (next env) n p)
     upto_stands : {env last : Env} {s : Span} {name : Name} {n : ℕ} {bound : ExprSyntax} {body : BlockSyntax} {c : ExprCore} {p : StmtsCore} → is_free env name.text ≡ true → IsTrue (is_length n) → Under env (Ix n) bound c
-        → StandsBlock (in_counted env name n) body last p → Stands env (syntax.Upto s name n bound body) (after_block env last) (core.Upto (next env) n c p)
+        → StandsBlock (in_counted env name n) body last p → StandsStmt env (syntax.Upto s name n bound body) (after_block env last) (core.Upto (next env) n c p)
     downto_stands : {env last : Env} {s : Span} {name : Name} {n : ℕ} {bound : ExprSyntax} {body : BlockSyntax} {c : ExprCore} {p : StmtsCore} → is_free env name.text ≡ true → IsTrue (is_length n) → Under env (Ix n) bound c
-        → StandsBlock (in_counted env name n) body last p → Stands env (syntax.Downto s name n bound body) (after_block env last) (core.Downto (next env) n c p)
-    forever_stands : {env last : Env} {s : Span} {body : BlockSyntax} {p : StmtsCore} → StandsBlock (in_loop env) body last p → Stands env (syntax.Forever s body) (after_block env last) (core.Forever p)
-    break_stands : {env : Env} {s : Span} → env.allowed.may_break ≡ true → Stands env (syntax.Break s) env core.Break
-    return_stands : {env : Env} {s : Span} {value : Option ExprSyntax} {c : Option ExprCore} → env.allowed.may_return ≡ true → Returns env env.result value c → Stands env (syntax.Return s value) env (core.Return c)
-    assert_stands : {env : Env} {s : Span} {cond : ExprSyntax} {c : ExprCore} {check : Check} → Under env types.Truth cond c → Marks check site.Assert (first_token s 6) → Stands env (syntax.Assert s cond) env (core.Assert c check)
-    no_alloc_stands : {env last : Env} {s : Span} {body : BlockSyntax} {p : StmtsCore} → StandsBlock (without env narrowing.NoAlloc) body last p → Stands env (syntax.NoAlloc s body) (after_block env last) (core.NoAlloc p)
-    no_break_stands : {env last : Env} {s : Span} {body : BlockSyntax} {p : StmtsCore} → StandsBlock (without env narrowing.NoBreak) body last p → Stands env (syntax.NoBreak s body) (after_block env last) (core.NoBreak p)
-    no_return_stands : {env last : Env} {s : Span} {body : BlockSyntax} {p : StmtsCore} → StandsBlock (without env narrowing.NoReturn) body last p → Stands env (syntax.NoReturn s body) (after_block env last) (core.NoReturn p)
+        → StandsBlock (in_counted env name n) body last p → StandsStmt env (syntax.Downto s name n bound body) (after_block env last) (core.Downto (next env) n c p)
+    forever_stands : {env last : Env} {s : Span} {body : BlockSyntax} {p : StmtsCore} → StandsBlock (in_loop env) body last p → StandsStmt env (syntax.Forever s body) (after_block env last) (core.Forever p)
+    break_stands : {env : Env} {s : Span} → env.allowed.may_break ≡ true → StandsStmt env (syntax.Break s) env core.Break
+    return_stands : {env : Env} {s : Span} {value : Option ExprSyntax} {c : Option ExprCore} → env.allowed.may_return ≡ true → Returns env env.result value c → StandsStmt env (syntax.Return s value) env (core.Return c)
+    assert_stands : {env : Env} {s : Span} {cond : ExprSyntax} {c : ExprCore} {check : Check} → Under env types.Truth cond c → Marks check site.Assert (first_token s 6) → StandsStmt env (syntax.Assert s cond) env (core.Assert c check)
+    no_alloc_stands : {env last : Env} {s : Span} {body : BlockSyntax} {p : StmtsCore} → StandsBlock (without env narrowing.NoAlloc) body last p → StandsStmt env (syntax.NoAlloc s body) (after_block env last) (core.NoAlloc p)
+    no_break_stands : {env last : Env} {s : Span} {body : BlockSyntax} {p : StmtsCore} → StandsBlock (without env narrowing.NoBreak) body last p → StandsStmt env (syntax.NoBreak s body) (after_block env last) (core.NoBreak p)
+    no_return_stands : {env last : Env} {s : Span} {body : BlockSyntax} {p : StmtsCore} → StandsBlock (without env narrowing.NoReturn) body last p → StandsStmt env (syntax.NoReturn s body) (after_block env last) (core.NoReturn p)
 
   -- with what is known at its end
   pub data StandsBlock : Env → BlockSyntax → Env → StmtsCore → Type 0 where
@@ -107,7 +107,7 @@ mutual
 
   pub data StandAll : Env → StmtsSyntax → Env → StmtsCore → Type 0 where
     none_stand : {env : Env} → StandAll env syntax.NoStmts env core.NoStmts
-    last_stands : {env after : Env} {s : StmtSyntax} {c : StmtCore} → Stands env s after c → StandAll env (syntax.MoreStmts s syntax.NoStmts) after (core.MoreStmts c core.NoStmts)
+    last_stands : {env after : Env} {s : StmtSyntax} {c : StmtCore} → StandsStmt env s after c → StandAll env (syntax.MoreStmts s syntax.NoStmts) after (core.MoreStmts c core.NoStmts)
     -- the next one is reached
-    more_stand : {env after end : Env} {s next_one : StmtSyntax} {rest : StmtsSyntax} {c : StmtCore} {p : StmtsCore} → Stands env s after c → stmt_falls s ≡ true → StandAll after (syntax.MoreStmts next_one rest) end p
+    more_stand : {env after end : Env} {s next_one : StmtSyntax} {rest : StmtsSyntax} {c : StmtCore} {p : StmtsCore} → StandsStmt env s after c → stmt_falls s ≡ true → StandAll after (syntax.MoreStmts next_one rest) end p
         → StandAll env (syntax.MoreStmts s (syntax.MoreStmts next_one rest)) end (core.MoreStmts c p)

@@ -40,7 +40,7 @@ pub data StandItems (names : List Word) : Earlier → List ItemSyntax → (end :
   procedure : {earlier end : Earlier} {p : ProcSyntax} {items : List ItemSyntax} {bs : List BitLayout} {as' : List AreaCore} {is : List ImportCore} {c : ProcCore} {ps : List ProcCore} → StandsProc (at_header names earlier p.header) p c
       → StandItems names (after earlier (Procedure p)) items end bs as' is ps → StandItems names earlier (Procedure p ∷ items) end bs as' is (c ∷ ps)
 
-pub record StandsFor (m : ModuleSyntax) (core : ModuleCore) : Type 0 where
+pub record Stands (m : ModuleSyntax) (core : ModuleCore) : Type 0 where
   pub end : Earlier
   pub items : StandItems (item_names m.items) nothing_earlier m.items end core.layouts core.areas core.imports core.procs
   pub structs : structs_of core.structs ≡ end.structs
@@ -51,4 +51,4 @@ pub record StandsFor (m : ModuleSyntax) (core : ModuleCore) : Type 0 where
 
 pub record WellTyped (m : ModuleSyntax) : Type 0 where
   pub core : ModuleCore
-  pub stands : StandsFor m core
+  pub stands : Stands m core

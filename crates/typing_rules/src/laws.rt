@@ -2,7 +2,7 @@
 
 ghost use Rattle.typing_rules.specs.Examples as example;
 ghost use Rattle.typing_rules.specs.TypesAgree.{SettledAgree, WantedAgree};
-ghost use Rattle.typing_rules.specs.Clean.{SettledIsClean, WantedIsClean};
+ghost use Rattle.typing_rules.specs.Clean.{SettledIsClean, WantedIsClean, CallIsClean};
 
 /// The module stands for its core.
 #[tactic(auto, using(crate::proofs::Examples::examples))]
@@ -39,4 +39,9 @@ pub fn types_agree()
 pub fn typed_expressions_are_clean()
     ensures settled { SettledIsClean }
     ensures wanted { WantedIsClean }
+{}
+
+/// A call that stands breaks no rule.
+pub fn typed_calls_are_clean()
+    ensures { CallIsClean }
 {}

@@ -3,3 +3,4 @@ pub mod TypesAgree
 pub mod Quiet
 pub mod Clean
 pub mod CleanCalls
+pub mod Picked

@@ -13,3 +13,4 @@ pub mod Laws
 pub mod Contexts
 pub mod TypesAgree
 pub mod Clean
+pub mod Picked

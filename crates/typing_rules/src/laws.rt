@@ -1,14 +1,21 @@
 //! A small module with its core, what is not well typed, and what is proved of typed expressions.
 
 ghost use Rattle.typing_rules.specs.Examples as example;
+ghost use Rattle.typing_rules.specs.Picked.{PickedStands};
 ghost use Rattle.typing_rules.specs.TypesAgree.{SettledAgree, WantedAgree};
 ghost use Rattle.typing_rules.specs.Clean.{SettledIsClean, WantedIsClean, CallIsClean};
 
-/// The module stands for its core.
+/// The module stands for its core, and the prefixes of a chain are told from chains of their own.
 #[tactic(auto, using(crate::proofs::Examples::examples))]
 pub fn module_example()
     ensures added { example.AddedStands }
     ensures prefixes { example.PrefixesAreTold }
+{}
+
+/// A module with calls, blocks and areas stands for its core.
+#[tactic(auto, using(crate::proofs::Picked::picked_law))]
+pub fn region_example()
+    ensures { PickedStands }
 {}
 
 /// Literals need types that hold them.

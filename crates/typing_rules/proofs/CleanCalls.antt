@@ -1,5 +1,5 @@
 -- A call that stands breaks no rule: the regions that are guessed are those that the arguments before require.
-use Rattle.std.proofs.Common.{◌≡◌, ℕ, suc, ◌==◌, List, [], ◌∷◌, ◌++◌, length, Option, Some, None, Bool, true, false, cond, not, ◌&&◌, ◌||◌, refl, sym, ◌∙◌, ap, IsTrue, nat_eq, eq-eqb, eqb-true}
+use Rattle.std.proofs.Common.{◌≡◌, ℕ, suc, ◌==◌, List, [], ◌∷◌, ◌++◌, length, Option, Some, None, Bool, true, false, cond, not, ◌&&◌, refl, sym, ◌∙◌, ap, IsTrue, eq-eqb, eqb-true}
 use Rattle.std.specs.List.{list_any, find}
 use Rattle.iv_words.specs.Words.{same_word}
 use Rattle.ivory_tree.specs.Syntax.{Word, ExprSyntax, CallSyntax}
@@ -13,22 +13,20 @@ use Rattle.region_check.specs.Faults.{known, required, or_else, region_at, regio
 use Rattle.core_tree.specs.Syntax as core
 use Rattle.core_tree.specs.Syntax.{ExprCore, CallCore}
 use Rattle.source_types.specs.Settled.{settled}
-use Rattle.source_types.specs.Values.{same_region, same_area}
+use Rattle.source_types.specs.Values.{same_region}
 use Rattle.source_types.specs.Environments.{Callee, callee_named}
 use Rattle.rule_faults.specs.Contexts.{Context}
-use Rattle.rule_faults.specs.Types.{type_of, own_type}
-use Rattle.rule_faults.specs.Wants.{Want, Takes, Wants, of_argument}
+use Rattle.rule_faults.specs.Types.{own_type}
+use Rattle.rule_faults.specs.Wants.{Takes, Wants, of_argument}
 use Rattle.rule_faults.specs.Nodes.{ACall, AnExpr}
-use Rattle.rule_faults.specs.ExpressionRules.{rule_35}
-use Rattle.rule_faults.specs.ExpressionRows.{expr_row, passed, args_row, call_row, params_of}
+use Rattle.rule_faults.specs.ExpressionRows.{expr_row, passed, args_row, params_of}
 use Rattle.rule_faults.specs.ExpressionRules.{rule_7}
 use Rattle.rule_faults.specs.StatementRules.{rule_34}
 use Rattle.rule_faults.specs.Tests.{where_both}
 use Rattle.rule_faults.specs.FirstFault.{rules, least_broken, first_of}
 use Rattle.typing_rules.specs.Environments.{Env}
 use Rattle.typing_rules.specs.Contexts.{context_of}
-use Rattle.typing_rules.specs.Expressions.{Has, Under}
-use Rattle.typing_rules.specs.Calls.{Fit, no_args, value_arg, reference_arg, Calls}
+use Rattle.typing_rules.specs.Calls.{Fit, no_args, value_arg, reference_arg}
 use Rattle.typing_rules.specs.Clean.{CallIsClean}
 use Rattle.typing_rules.proofs.TypesAgree.{has_settled, typed}
 use Rattle.typing_rules.proofs.Quiet.{AsWanted, none_at, quiet_cons, quiet_append, region_same, area_same}
@@ -82,7 +80,7 @@ access_both true false h = let no : ⊥ = cc in absurd no
 access_both false wanted h = refl
 
 takes : (context : Context) (e : ExprSyntax) (regions : ℕ → Region) (before : List Passed) (t : ValueType) (wanted given : Reference) → settled e ≡ true → own_type context e ≡ Some t → reference_of t ≡ Some given
-  → FitsReference regions wanted given → AllFit regions before → AsWanted (AnExpr context (Takes (required (known before) wanted.region) wanted) e)
+    → FitsReference regions wanted given → AllFit regions before → AsWanted (AnExpr context (Takes (required (known before) wanted.region) wanted) e)
 takes context e regions before t wanted given s o r f a = record {
   r18 = refl;
   r20 = refl;
@@ -90,7 +88,8 @@ takes context e regions before t wanted given s o r f a = record {
   r36 = rw (o, r) (access_both given.constant wanted.constant f.access);
   r37 = rw (s, o, r, f.area, area_same wanted.area) refl;
   r38 = refl;
-  r39 = refl }
+  r39 = refl;
+}
 
 takes_of : (before : List Passed) (t : ValueType) (wanted : Reference) → reference_of t ≡ Some wanted → of_argument before (Some t) ≡ Takes (required (known before) wanted.region) wanted
 takes_of before types.Truth wanted h = let no : ⊥ = cc in absurd no
@@ -107,17 +106,17 @@ wants_of before (types.Bits k) h = refl
 wants_of before (types.Ref c r a) h = let no : ⊥ = cc in absurd no
 
 clean_args : {env : Env} {regions : ℕ → Region} {params : List (Option ValueType)} {args : List ExprSyntax} {cs : List ExprCore} (before : List Passed) → Fit env regions params args cs → AllFit regions before
-  → first_of (args_row (context_of env) before params args) ≡ None
+    → first_of (args_row (context_of env) before params args) ≡ None
 clean_args before no_args a = refl
 clean_args {env = env} {regions = regions} before (value_arg {t = t} {params = params} {e = e} {args = args} n u fit) a =
     quiet_append (expr_row (context_of env) (of_argument before (Some t)) e) (args_row (context_of env) (before ++ passed (context_of env) (Some t) e ∷ []) params args)
-        (ap (λ w. first_of (expr_row (context_of env) w e)) (wants_of before t n) ∙ (clean_under u).wanted)
-        (clean_args (before ++ passed (context_of env) (Some t) e ∷ []) fit (all_fit_more regions before (passed (context_of env) (Some t) e) a (rw n tt)))
+    (ap (λ w. first_of (expr_row (context_of env) w e)) (wants_of before t n) ∙ (clean_under u).wanted)
+    (clean_args (before ++ passed (context_of env) (Some t) e ∷ []) fit (all_fit_more regions before (passed (context_of env) (Some t) e) a (rw n tt)))
 clean_args {env = env} {regions = regions} before (reference_arg {t = t} {wanted = wanted} {given = given} {params = params} {e = e} {args = args} {c = c} r h g f fit) a =
     quiet_append (expr_row (context_of env) (of_argument before (Some t)) e) (args_row (context_of env) (before ++ passed (context_of env) (Some t) e ∷ []) params args)
-        (ap (λ w. first_of (expr_row (context_of env) w e)) (takes_of before t wanted r)
-            ∙ clean h (Takes (required (known before) wanted.region) wanted) (takes (context_of env) e regions before (core.type_of c) wanted given (has_settled h) (typed h None) g f a))
-        (clean_args (before ++ passed (context_of env) (Some t) e ∷ []) fit (all_fit_more regions before (passed (context_of env) (Some t) e) a (rw (r, typed h (Some t), g) f)))
+    (ap (λ w. first_of (expr_row (context_of env) w e)) (takes_of before t wanted r)
+    ∙ clean h (Takes (required (known before) wanted.region) wanted) (takes (context_of env) e regions before (core.type_of c) wanted given (has_settled h) (typed h None) g f a))
+    (clean_args (before ++ passed (context_of env) (Some t) e ∷ []) fit (all_fit_more regions before (passed (context_of env) (Some t) e) a (rw (r, typed h (Some t), g) f)))
 
 same_length : {env : Env} {regions : ℕ → Region} {params : List (Option ValueType)} {args : List ExprSyntax} {cs : List ExprCore} → Fit env regions params args cs → length params ≡ length args
 same_length no_args = refl
@@ -131,7 +130,7 @@ callee_there name [] c h = let no : ⊥ = cc in absurd no
 callee_there name (x ∷ callees) c h = go (callee_there name callees c) (same_word x.name name) refl h
   where
     go : (find (λ (y : Callee). same_word y.name name) callees ≡ Some c → list_any (λ (y : Callee). same_word y.name name) callees ≡ true)
-      → (b : Bool) → same_word x.name name ≡ b → cond b (Some x) (find (λ (y : Callee). same_word y.name name) callees) ≡ Some c → list_any (λ (y : Callee). same_word y.name name) (x ∷ callees) ≡ true
+        → (b : Bool) → same_word x.name name ≡ b → cond b (Some x) (find (λ (y : Callee). same_word y.name name) callees) ≡ Some c → list_any (λ (y : Callee). same_word y.name name) (x ∷ callees) ≡ true
     go ih true e g = rw e refl
     go ih false e g = rw (e, ih g) refl
 
@@ -142,5 +141,5 @@ quiet_call context call h g = none_at 1 rules (ACall context call)
 pub call_is_clean : CallIsClean
 call_is_clean env call c result k =
     quiet_cons (ACall (context_of env) call) (args_row (context_of env) [] (params_of (callee_named env.earlier call.name.text)) call.args)
-        (quiet_call (context_of env) call (rw (callee_there call.name.text env.earlier.callees k.callee k.earlier) refl) (rw (k.earlier, eq-eqb (length k.callee.params) (length call.args) (same_length k.fit)) refl))
-        (ap (λ o. first_of (args_row (context_of env) [] (params_of o) call.args)) k.earlier ∙ clean_args [] k.fit tt)
+    (quiet_call (context_of env) call (rw (callee_there call.name.text env.earlier.callees k.callee k.earlier) refl) (rw (k.earlier, eq-eqb (length k.callee.params) (length call.args) (same_length k.fit)) refl))
+    (ap (λ o. first_of (args_row (context_of env) [] (params_of o) call.args)) k.earlier ∙ clean_args [] k.fit tt)

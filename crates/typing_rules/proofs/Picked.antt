@@ -1,11 +1,10 @@
 -- The module stands for its core.
-use Rattle.std.proofs.Common.{◌≡◌, ℕ, List, [], ◌∷◌, Some, None, true, false, refl}
+use Rattle.std.proofs.Common.{ℕ, List, [], ◌∷◌, Some, false, refl}
 use Rattle.std.proofs.lemmas.List.Sorted.{IsPermutation-refl}
 use Rattle.ivory_tree.specs.Syntax as syntax
 use Rattle.area_types.specs.Syntax.{Truth}
-use Rattle.area_types.specs.declared.region.Region.{Region}
 use Rattle.area_types.specs.declared.region.Region.TheVariants.{Param, Own}
-use Rattle.source_types.specs.Environments.{Earlier, Callee, nothing_earlier}
+use Rattle.source_types.specs.Environments.{Earlier, nothing_earlier}
 use Rattle.source_types.specs.Written.{callee_in}
 use Rattle.source_types.specs.Items.{after, item_names}
 use Rattle.typing_rules.specs.Environments.{Env, with_local, after_block}
@@ -19,7 +18,6 @@ use Rattle.typing_rules.specs.Items.{StandsArea, StandsProc, with_params}
 use Rattle.typing_rules.specs.WellTyped as module_rule
 use Rattle.typing_rules.specs.WellTyped.{outside, at_header}
 use Rattle.typing_rules.specs.Picked.{out, pick, pick_header, go, go_header, picked, out_core, pick_core, go_core, byte_at, PickedStands}
-use Rattle.iv_words.specs.Words.{same_word}
 use Rattle.std.specs.Prelude.{codes}
 
 abbrev names : List (List ℕ)
@@ -44,7 +42,8 @@ pick_stands = record {
   header = record {
     unused = refl;
     params_stand = item.more_params refl refl (record { exists = refl; small = refl }) (item.more_params refl refl (record { exists = refl; small = refl }) item.no_params);
-    result_stands = item.a_result (record { exists = refl; small = refl }) };
+    result_stands = item.a_result (record { exists = refl; small = refl });
+  };
   plain = λ h. let no : ⊥ = cc in absurd no;
   contracts = item.no_contracts;
   body = stands.braces (stands.last_stands (stands.return_stands refl (stands.reference refl (rule.local refl) refl (record { region = refl; area = refl; access = refl }))));
@@ -52,7 +51,8 @@ pick_stands = record {
   name = refl;
   exported = refl;
   params = refl;
-  locals = refl }
+  locals = refl;
+}
 
 abbrev in_go : Env
 in_go = with_params (at_header names after_pick go_header) go_header.params (Truth ∷ [])
@@ -72,23 +72,25 @@ go_stands = record {
   plain = λ h. refl;
   contracts = item.no_contracts;
   body = stands.braces
-    (stands.more_stand (stands.alloc_stands refl refl (record { exists = refl; small = refl }) (stands.filled (fills.stored (rule.literal refl)))) refl
-    (stands.more_stand (stands.if_stands (rule.has (rule.local refl) refl) (stands.braces
-        (stands.more_stand (stands.let_call_stands refl (record {
-            callee = callee_in after_out false pick_header;
-            regions = λ j. Own;
-            earlier = refl;
-            number = refl;
-            kind = refl;
-            fit = calls.reference_arg refl (rule.local refl) refl (record { region = refl; access = refl; area = refl }) (calls.reference_arg refl (rule.local refl) refl (record { region = refl; access = refl; area = refl }) calls.no_args);
-            gives = refl })) refl
-        (stands.last_stands (stands.store_stands (rule.local refl) refl (rule.literal refl)))))) refl
-    (stands.last_stands (stands.store_stands (rule.area_name refl refl refl refl) refl (rule.has (rule.read (rule.local refl) refl) refl)))));
+      (stands.more_stand (stands.alloc_stands refl refl (record { exists = refl; small = refl }) (stands.filled (fills.stored (rule.literal refl)))) refl
+      (stands.more_stand (stands.if_stands (rule.has (rule.local refl) refl) (stands.braces
+      (stands.more_stand (stands.let_call_stands refl (record {
+        callee = callee_in after_out false pick_header;
+        regions = λ j. Own;
+        earlier = refl;
+        number = refl;
+        kind = refl;
+        fit = calls.reference_arg refl (rule.local refl) refl (record { region = refl; access = refl; area = refl }) (calls.reference_arg refl (rule.local refl) refl (record { region = refl; access = refl; area = refl }) calls.no_args);
+        gives = refl;
+      })) refl
+      (stands.last_stands (stands.store_stands (rule.local refl) refl (rule.literal refl)))))) refl
+      (stands.last_stands (stands.store_stands (rule.area_name refl refl refl refl) refl (rule.has (rule.read (rule.local refl) refl) refl)))));
   ends = λ h. let no : ⊥ = cc in absurd no;
   name = refl;
   exported = refl;
   params = refl;
-  locals = refl }
+  locals = refl;
+}
 
 pub picked_stands : PickedStands
 picked_stands = record {
@@ -97,6 +99,7 @@ picked_stands = record {
   structs = refl;
   words = refl;
   sites = [];
-  numbered = record { all = IsPermutation-refl []; ascending = tt; numbered = tt } }
+  numbered = record { all = IsPermutation-refl []; ascending = tt; numbered = tt };
+}
 
 pub ruleset picked_law = picked_stands

@@ -1,5 +1,5 @@
 -- When an expression breaks no rule: none of those that look at what is wanted of it, and none of those that look at its form.
-use Rattle.std.proofs.Common.{◌≡◌, ℕ, ◌+◌, List, [], ◌∷◌, ◌++◌, Option, Some, None, Bool, true, false, cond, not, ◌&&◌, refl, sym, ◌∙◌, ap, IsTrue, nat_eq, eq-eqb}
+use Rattle.std.proofs.Common.{◌≡◌, ℕ, ◌+◌, List, [], ◌∷◌, ◌++◌, Option, Some, None, Bool, true, false, not, ◌&&◌, refl, ◌∙◌, ap, nat_eq, eq-eqb}
 use Rattle.std.specs.List.{position_from}
 use Rattle.ivory_tree.specs.Syntax.{ExprSyntax}
 use Rattle.iv_words.specs.declared.IntKind.{IntKind}
@@ -60,7 +60,7 @@ InForm n =
 pub quiet : (context : Context) (want : Want) (e : ExprSyntax) → AsWanted (AnExpr context want e) → InForm (AnExpr context want e) → least_broken (AnExpr context want e) ≡ None
 quiet context want e w f =
     none_at 1 rules (AnExpr context want e)
-        (refl, (refl, (refl, (f.0, (refl, (f.1, (refl, (f.2, (refl, (refl, (refl, (refl, (refl, (refl, (refl, (refl, (refl, (w.r18, (f.3, (w.r20, (f.4, (f.5, (f.6, (f.7, (f.8, (f.9, (f.10, (f.11, (f.12, (f.13, (refl, (refl, (refl, (refl, (w.r35, (w.r36, (w.r37, (w.r38, (w.r39, (refl, (refl, (refl, (refl, (refl, tt))))))))))))))))))))))))))))))))))))))))))))
+    (refl, (refl, (refl, (f.0, (refl, (f.1, (refl, (f.2, (refl, (refl, (refl, (refl, (refl, (refl, (refl, (refl, (refl, (w.r18, (f.3, (w.r20, (f.4, (f.5, (f.6, (f.7, (f.8, (f.9, (f.10, (f.11, (f.12, (f.13, (refl, (refl, (refl, (refl, (w.r35, (w.r36, (w.r37, (w.r38, (w.r39, (refl, (refl, (refl, (refl, (refl, tt))))))))))))))))))))))))))))))))))))))))))))
 
 -- ---- what is wanted
 

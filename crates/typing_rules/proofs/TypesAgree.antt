@@ -1,5 +1,5 @@
 -- What has a type has it by its form.
-use Rattle.std.proofs.Common.{◌≡◌, ℕ, List, [], ◌∷◌, map, Option, Some, None, Bool, true, false, cond, not, ◌||◌, refl, sym, ◌∙◌, ap, IsTrue}
+use Rattle.std.proofs.Common.{◌≡◌, List, [], ◌∷◌, map, Option, Some, None, Bool, true, false, cond, ◌||◌, refl, sym, ◌∙◌, ap}
 use Rattle.std.specs.List.{list_any, find}
 use Rattle.iv_words.specs.Words.{same_word}
 use Rattle.ivory_tree.specs.Syntax.{Word, ExprSyntax}
@@ -12,11 +12,10 @@ use Rattle.core_tree.specs.Syntax as core
 use Rattle.core_tree.specs.Syntax.{ExprCore}
 use Rattle.source_types.specs.Operators.{is_logic, is_comparison, gives_truth, is_arithmetic}
 use Rattle.source_types.specs.Settled.{settled}
-use Rattle.source_types.specs.Written.{index_type}
 use Rattle.rule_faults.specs.Contexts as faults
 use Rattle.rule_faults.specs.Contexts.{in_scope, name_type}
 use Rattle.rule_faults.specs.Types.{type_of, prefix_type, first_type}
-use Rattle.typing_rules.specs.Environments.{Env, Local, local_named}
+use Rattle.typing_rules.specs.Environments.{Env, Local}
 use Rattle.typing_rules.specs.Contexts.{local_of, context_of}
 use Rattle.typing_rules.specs.Expressions as rule
 use Rattle.typing_rules.specs.Expressions.{Has, Under, result_type}
@@ -25,13 +24,13 @@ use Rattle.typing_rules.specs.TypesAgree.{SettledAgree, WantedAgree}
 -- ---- names
 
 pub in_both : (name : Word) (ls : List Local) (l : Local) → find (λ (x : Local). same_word x.name name) ls ≡ Some l
-  → (list_any (λ (x : faults.Local). same_word x.name name) (map local_of ls) ≡ true) × (find (λ (x : faults.Local). same_word x.name name) (map local_of ls) ≡ Some (local_of l))
+    → (list_any (λ (x : faults.Local). same_word x.name name) (map local_of ls) ≡ true) × (find (λ (x : faults.Local). same_word x.name name) (map local_of ls) ≡ Some (local_of l))
 in_both name [] l h = let no : ⊥ = cc in absurd no
 in_both name (x ∷ ls) l h = go (in_both name ls l) (same_word x.name name) refl h
   where
     go : (find (λ (y : Local). same_word y.name name) ls ≡ Some l → (list_any (λ (y : faults.Local). same_word y.name name) (map local_of ls) ≡ true) × (find (λ (y : faults.Local). same_word y.name name) (map local_of ls) ≡ Some (local_of l)))
-      → (b : Bool) → same_word x.name name ≡ b → cond b (Some x) (find (λ (y : Local). same_word y.name name) ls) ≡ Some l
-      → (list_any (λ (y : faults.Local). same_word y.name name) (map local_of (x ∷ ls)) ≡ true) × (find (λ (y : faults.Local). same_word y.name name) (map local_of (x ∷ ls)) ≡ Some (local_of l))
+        → (b : Bool) → same_word x.name name ≡ b → cond b (Some x) (find (λ (y : Local). same_word y.name name) ls) ≡ Some l
+        → (list_any (λ (y : faults.Local). same_word y.name name) (map local_of (x ∷ ls)) ≡ true) × (find (λ (y : faults.Local). same_word y.name name) (map local_of (x ∷ ls)) ≡ Some (local_of l))
     go ih true e g = (rw e refl, let q : x ≡ l = cc in rw (e, q) refl)
     go ih false e g = (rw (e, (ih g).0) refl, rw (e, (ih g).1) refl)
 
@@ -40,7 +39,7 @@ in_neither name [] h = refl
 in_neither name (x ∷ ls) h = go (in_neither name ls) (same_word x.name name) refl h
   where
     go : (find (λ (y : Local). same_word y.name name) ls ≡ None → list_any (λ (y : faults.Local). same_word y.name name) (map local_of ls) ≡ false)
-      → (b : Bool) → same_word x.name name ≡ b → cond b (Some x) (find (λ (y : Local). same_word y.name name) ls) ≡ None → list_any (λ (y : faults.Local). same_word y.name name) (map local_of (x ∷ ls)) ≡ false
+        → (b : Bool) → same_word x.name name ≡ b → cond b (Some x) (find (λ (y : Local). same_word y.name name) ls) ≡ None → list_any (λ (y : faults.Local). same_word y.name name) (map local_of (x ∷ ls)) ≡ false
     go ih true e g = let no : ⊥ = cc in absurd no
     go ih false e g = rw (e, ih g) refl
 

@@ -9,5 +9,12 @@ local_of l = record { name = l.name; ty = Some l.ty }
 
 abbrev pub context_of : Env → Context
 context_of env = record {
-  earlier = env.earlier; names = env.names; regions = env.regions; gives = is_some env.result; result = env.result;
-  in_ensures = env.in_ensures; allowed = env.allowed; scope = map local_of env.scope }
+  earlier = env.earlier;
+  names = env.names;
+  regions = env.regions;
+  gives = is_some env.result;
+  result = env.result;
+  in_ensures = env.in_ensures;
+  allowed = env.allowed;
+  scope = map local_of env.scope;
+}

@@ -29,12 +29,17 @@ abbrev pub go_header : HeaderSyntax
 go_header = header (name (codes "go") 123 125) (param (name (codes "c") 126 127) (syntax.TruthType (span 130 134)) 126 134 ∷ []) None 123 135
 
 abbrev pub go : ProcSyntax
-go = record { exported = true; header = go_header; contracts = []; span = span 111 226;
+go = record {
+  exported = true;
+  header = go_header;
+  contracts = [];
+  span = span 111 226;
   body = block 136 226 (syntax.Alloc (span 140 162) (name (codes "p") 146 147) (cell 150 157) (Some (syntax.One (number 1 160 161)))
-    ∷ syntax.If (span 165 211) (variable (codes "c") 168 169) (block 170 211
-        (syntax.LetCall (span 176 195) (name (codes "x") 180 181) (call (name (codes "pick") 184 188) (variable (codes "p") 189 190 ∷ variable (codes "p") 192 193 ∷ []) 184 194)
-        ∷ syntax.Store (span 200 207) (variable (codes "x") 201 202) (number 5 205 206) ∷ []))
-    ∷ syntax.Store (span 214 224) (variable (codes "out") 215 218) (syntax.Prefix (span 221 223) Deref (variable (codes "p") 222 223)) ∷ []) }
+      ∷ syntax.If (span 165 211) (variable (codes "c") 168 169) (block 170 211
+      (syntax.LetCall (span 176 195) (name (codes "x") 180 181) (call (name (codes "pick") 184 188) (variable (codes "p") 189 190 ∷ variable (codes "p") 192 193 ∷ []) 184 194)
+      ∷ syntax.Store (span 200 207) (variable (codes "x") 201 202) (number 5 205 206) ∷ []))
+      ∷ syntax.Store (span 214 224) (variable (codes "out") 215 218) (syntax.Prefix (span 221 223) Deref (variable (codes "p") 222 223)) ∷ []);
+}
 
 abbrev pub picked : ModuleSyntax
 picked = module_m (syntax.Global out ∷ syntax.Procedure pick ∷ syntax.Procedure go ∷ []) 226
@@ -52,17 +57,30 @@ abbrev pub out_core : AreaCore
 out_core = record { name = codes "out"; constant = false; area = byte_area; first = pos 0 ∷ [] }
 
 abbrev pub pick_core : ProcCore
-pick_core = record { name = codes "pick"; exported = false; params = record { name = codes "a"; ty = byte_at (Param 0) } ∷ record { name = codes "b"; ty = byte_at (Param 0) } ∷ [];
-  result = Some (byte_at (Param 0)); contracts = []; locals = byte_at (Param 0) ∷ byte_at (Param 0) ∷ [];
-  body = core.MoreStmts (core.Return (Some (core.Local (unchecked (byte_at (Param 0))) 1))) core.NoStmts }
+pick_core = record {
+  name = codes "pick";
+  exported = false;
+  params = record { name = codes "a"; ty = byte_at (Param 0) } ∷ record { name = codes "b"; ty = byte_at (Param 0) } ∷ [];
+  result = Some (byte_at (Param 0));
+  contracts = [];
+  locals = byte_at (Param 0) ∷ byte_at (Param 0) ∷ [];
+  body = core.MoreStmts (core.Return (Some (core.Local (unchecked (byte_at (Param 0))) 1))) core.NoStmts;
+}
 
 abbrev pub go_core : ProcCore
-go_core = record { name = codes "go"; exported = true; params = record { name = codes "c"; ty = Truth } ∷ []; result = None; contracts = []; locals = Truth ∷ byte_at Own ∷ byte_at Own ∷ [];
+go_core = record {
+  name = codes "go";
+  exported = true;
+  params = record { name = codes "c"; ty = Truth } ∷ [];
+  result = None;
+  contracts = [];
+  locals = Truth ∷ byte_at Own ∷ byte_at Own ∷ [];
   body = core.MoreStmts (core.Alloc 1 byte_area (Some (core.One (core.Number (unchecked (Int U8)) (pos 1)))))
-    (core.MoreStmts (core.If (core.Local (unchecked Truth) 0)
-        (core.MoreStmts (core.LetCall 2 (record { import = false; callee = 0; args = core.Local (unchecked (byte_at Own)) 1 ∷ core.Local (unchecked (byte_at Own)) 1 ∷ [] }))
-        (core.MoreStmts (core.Store (core.Local (unchecked (byte_at Own)) 2) (core.Number (unchecked (Int U8)) (pos 5))) core.NoStmts)))
-    (core.MoreStmts (core.Store (core.AreaName (unchecked (byte_at Global)) 0) (core.Prefix (unchecked (Int U8)) Deref (core.Local (unchecked (byte_at Own)) 1))) core.NoStmts)) }
+      (core.MoreStmts (core.If (core.Local (unchecked Truth) 0)
+      (core.MoreStmts (core.LetCall 2 (record { import = false; callee = 0; args = core.Local (unchecked (byte_at Own)) 1 ∷ core.Local (unchecked (byte_at Own)) 1 ∷ [] }))
+      (core.MoreStmts (core.Store (core.Local (unchecked (byte_at Own)) 2) (core.Number (unchecked (Int U8)) (pos 5))) core.NoStmts)))
+      (core.MoreStmts (core.Store (core.AreaName (unchecked (byte_at Global)) 0) (core.Prefix (unchecked (Int U8)) Deref (core.Local (unchecked (byte_at Own)) 1))) core.NoStmts));
+}
 
 abbrev pub picked_core : ModuleCore
 picked_core = record { structs = record { structs = []; words = [] }; layouts = []; areas = out_core ∷ []; imports = []; procs = pick_core ∷ go_core ∷ [] }

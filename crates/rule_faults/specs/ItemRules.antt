@@ -1,0 +1,160 @@
+-- Rules 1 to 3 and 8 to 17: names, lengths and sizes, bit data, what crosses the module's boundary, initializers.
+use Rattle.std.specs.Prelude.{ℕ, ◌+◌, pos, int_le, Bool, true, false, ◌&&◌, ◌||◌, not, if◌then◌else◌, nat_eq, nat_lt, List, length, filter_map, sum_by, slice_get, Option, Some, None, option_map, is_some}
+use Rattle.std.specs.List.{list_all}
+use Rattle.iv_words.specs.Kinds.{width, is_signed}
+use Rattle.iv_words.specs.declared.Name.{Name}
+use Rattle.ivory_tree.specs.Syntax.{IndexType, RefType, ArrayArea, ExprSyntax, Literal, Truth, ToIndex, WrapIndex, MakeBits, One, Many, InitsSyntax, NoInits, MoreInits, StmtSyntax, Let, LetCall, Alloc, Map, Upto, Downto, FieldSyntax, BitsData, Struct, Global, Import, Procedure}
+use Rattle.ivory_tree.specs.declared.types.RegionText.TheVariants as region
+use Rattle.ivory_tree.specs.declared.items.BitField.{BitField}
+use Rattle.type_trees.specs.Trees as trees
+use Rattle.area_types.specs.Syntax as types
+use Rattle.area_types.specs.Syntax.{ValueType, Area, StructType, Ref}
+use Rattle.area_types.specs.Trees.{Written, WrittenRow, tree_of, fields_of, trees_of}
+use Rattle.area_types.specs.Tables.{is_length, is_small}
+use Rattle.source_types.specs.Values.{is_plain}
+use Rattle.source_types.specs.Environments.{Earlier, words, has_word, is_item, is_type_name}
+use Rattle.source_types.specs.Written.{type_in, area_in, field_in}
+use Rattle.rule_faults.specs.Contexts.{is_taken}
+use Rattle.rule_faults.specs.Nodes.{Exported, Imported, ForParam, ForResult, Node, AnItem, ABitField, AField, AParam, AType, AnArea, AnInit, AStatement, AnExpr}
+use Rattle.rule_faults.specs.Tests.{where_there}
+
+-- the name that a statement brings into scope
+abbrev pub name_of : StmtSyntax → Option Name
+name_of (Let s name value) = Some name
+name_of (LetCall s name call) = Some name
+name_of (Alloc s name area init) = Some name
+name_of (Map s name n body) = Some name
+name_of (Upto s name n bound body) = Some name
+name_of (Downto s name n bound body) = Some name
+name_of _ = None
+
+-- 1 | item, parameter, let, alloc, loop | a local name is a module name (item of any place) or in scope; an item's name was used by an
+-- earlier area, import or procedure
+abbrev pub rule_1 : Node → Bool
+rule_1 (AnItem earlier (Global i)) = is_item earlier i.name.text
+rule_1 (AnItem earlier (Import h)) = is_item earlier h.name.text
+rule_1 (AnItem earlier (Procedure p)) = is_item earlier p.header.name.text
+rule_1 (AParam context p) = is_taken context p.name.text
+rule_1 (AStatement context reached s) = where_there (name_of s) (λ name. is_taken context name.text)
+rule_1 _ = false
+
+-- 2 | item | a struct or bit data name was used by an earlier one
+abbrev pub rule_2 : Node → Bool
+rule_2 (AnItem earlier (BitsData i)) = is_type_name earlier i.name.text
+rule_2 (AnItem earlier (Struct i)) = is_type_name earlier i.name.text
+rule_2 _ = false
+
+-- 3 | field | its name came before in the same item
+abbrev pub rule_3 : Node → Bool
+rule_3 (ABitField before f) = has_word before f.name.text
+rule_3 (AField before f) = has_word before f.name.text
+rule_3 _ = false
+
+-- the N of a loop
+abbrev pub length_of : StmtSyntax → Option ℕ
+length_of (Map s name n body) = Some n
+length_of (Upto s name n bound body) = Some n
+length_of (Downto s name n bound body) = Some n
+length_of _ = None
+
+-- 8 | area, type, expression, loop | a length or N is 0 or above 65,535
+abbrev pub rule_8 : Node → Bool
+rule_8 (AnArea earlier (ArrayArea s n element)) = not (is_length n)
+rule_8 (AType earlier regions place (IndexType s n)) = not (is_length n)
+rule_8 (AnExpr context want (ToIndex s n e)) = not (is_length n)
+rule_8 (AnExpr context want (WrapIndex s n e)) = not (is_length n)
+rule_8 (AStatement context reached s) = where_there (length_of s) (λ n. not (is_length n))
+rule_8 _ = false
+
+-- an area with its structs written out
+abbrev pub written : Earlier → Area → Written
+written earlier a = tree_of (trees_of earlier.structs) a
+
+-- the struct of these fields, where each has an area
+abbrev pub written_struct : Earlier → List FieldSyntax → Option Written
+written_struct earlier fields =
+    if list_all (λ f. is_some (field_in earlier f)) fields
+    then Some (trees.Struct (length earlier.structs) (fields_of (trees_of earlier.structs) (filter_map (field_in earlier) fields)))
+    else None
+
+-- 9 | area, struct item | more than 65,535 bytes on t32, or more than 32 levels of arrays and structs
+abbrev pub rule_9 : Node → Bool
+rule_9 (AnArea earlier a) = where_there (area_in earlier a) (λ area. not (is_small (words earlier) (written earlier area)))
+rule_9 (AnItem earlier (Struct i)) = where_there (written_struct earlier i.fields) (λ area. not (is_small (words earlier) area))
+rule_9 _ = false
+
+-- 10 | bit data item | signed word, or widths that do not add up to it
+abbrev pub rule_10 : Node → Bool
+rule_10 (AnItem earlier (BitsData i)) = is_signed i.word || not (nat_eq (sum_by (λ (f : BitField). f.width) i.fields) (width i.word))
+rule_10 _ = false
+
+-- 11 | bit field | width 0
+abbrev pub rule_11 : Node → Bool
+rule_11 (ABitField before f) = nat_eq f.width 0
+rule_11 _ = false
+
+-- 12 | result type | its region name is in no parameter
+abbrev pub rule_12 : Node → Bool
+rule_12 (AType earlier regions (ForResult boundary) (RefType s constant (region.Named name) area)) = not (has_word regions name)
+rule_12 _ = false
+
+-- 13 | parameter or result type | of an exported procedure and neither bool nor integer
+abbrev pub rule_13 : Node → Bool
+rule_13 (AType earlier regions (ForParam Exported) t) = where_there (type_in earlier regions t) (λ ty. not (is_plain ty))
+rule_13 (AType earlier regions (ForResult Exported) t) = where_there (type_in earlier regions t) (λ ty. not (is_plain ty))
+rule_13 _ = false
+
+-- each cell is a bool or an integer
+abbrev mutual
+  pub plain_cells : Written → Bool
+  plain_cells (trees.Leaf t) = is_plain t
+  plain_cells (trees.Many n element) = plain_cells element
+  plain_cells (trees.Struct k fields) = plain_row fields
+
+  pub plain_row : WrittenRow → Bool
+  plain_row trees.End = true
+  plain_row (trees.Field i a fields) = plain_cells a && plain_row fields
+
+abbrev pub gives_other_cells : Earlier → ValueType → Bool
+gives_other_cells earlier (Ref false region area) = not (plain_cells (written earlier area))
+gives_other_cells earlier _ = false
+
+-- 14 | parameter or result type | of an import: the result is neither bool nor integer, or a mutable reference has a cell that is neither
+abbrev pub rule_14 : Node → Bool
+rule_14 (AType earlier regions (ForParam Imported) t) = where_there (type_in earlier regions t) (gives_other_cells earlier)
+rule_14 (AType earlier regions (ForResult Imported) t) = where_there (type_in earlier regions t) (λ ty. not (is_plain ty))
+rule_14 _ = false
+
+-- 15 | initializer | braces for a stored area, or an expression for an array or struct
+abbrev pub rule_15 : Node → Bool
+rule_15 (AnInit earlier global (Some (types.Stored t)) (Many s inits)) = true
+rule_15 (AnInit earlier global (Some (types.Array n element)) (One e)) = true
+rule_15 (AnInit earlier global (Some (types.Struct k)) (One e)) = true
+rule_15 _ = false
+
+abbrev pub inits_count : InitsSyntax → ℕ
+inits_count NoInits = 0
+inits_count (MoreInits i inits) = 1 + inits_count inits
+
+-- the elements of an array, the fields of a struct
+abbrev pub place_count : Earlier → Area → Option ℕ
+place_count earlier (types.Stored t) = None
+place_count earlier (types.Array n element) = Some n
+place_count earlier (types.Struct k) = option_map (λ (s : StructType). length s.fields) (slice_get earlier.structs k)
+
+-- 16 | initializer | more elements than places
+abbrev pub rule_16 : Node → Bool
+rule_16 (AnInit earlier global (Some area) (Many s inits)) = where_there (place_count earlier area) (λ n. nat_lt n (inits_count inits))
+rule_16 _ = false
+
+-- a NUM, `-` NUM, `true`, `false` or `bits` of a NUM
+abbrev pub is_first_value : ExprSyntax → Bool
+is_first_value (Literal s value) = true
+is_first_value (Truth s value) = true
+is_first_value (MakeBits s name (Literal t value)) = int_le (pos 0) value
+is_first_value _ = false
+
+-- 17 | initializer | a cell of a global area is not a NUM, `-` NUM, `true`, `false` or `bits` of a NUM
+abbrev pub rule_17 : Node → Bool
+rule_17 (AnInit earlier true (Some (types.Stored t)) (One e)) = not (is_first_value e)
+rule_17 _ = false

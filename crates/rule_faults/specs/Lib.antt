@@ -1,0 +1,14 @@
+pub mod Contexts
+pub mod Types
+pub mod Wants
+pub mod Nodes
+pub mod ExpressionRows
+pub mod StatementRows
+pub mod ItemRows
+pub mod Tests
+pub mod ItemRules
+pub mod ExpressionRules
+pub mod StatementRules
+pub mod FirstFault
+pub mod Laws
+pub mod Examples

@@ -1,0 +1,20 @@
+-- What relates the two definitions, which are written apart: a module of the form that texts have is well typed or has a first fault, and
+-- not both; and it stands for one core at most.
+use Rattle.std.specs.Prelude.{◌≡◌, ◌⊎◌, ℕ}
+use Rattle.iv_words.specs.declared.Span.{Span}
+use Rattle.ivory_tree.specs.Syntax.{ModuleSyntax}
+use Rattle.ivory_tree.specs.Formed.{Formed}
+use Rattle.core_tree.specs.Syntax.{ModuleCore}
+use Rattle.rule_faults.specs.FirstFault.{FirstFault}
+use Rattle.typing_rules.specs.WellTyped.{Stands, WellTyped}
+
+pub record Faulty (m : ModuleSyntax) : Type 0 where
+  pub rule : ℕ
+  pub span : Span
+  pub fault : FirstFault m rule span
+
+abbrev pub ExactlyOne : Type 0
+ExactlyOne = (m : ModuleSyntax) → Formed m → (WellTyped m ⊎ Faulty m) × (WellTyped m → Faulty m → ⊥)
+
+abbrev pub OneCore : Type 0
+OneCore = (m : ModuleSyntax) (c d : ModuleCore) → Stands m c → Stands m d → c ≡ d

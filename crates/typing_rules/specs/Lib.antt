@@ -1,0 +1,16 @@
+pub mod Sites
+pub mod Wholes
+pub mod Environments
+pub mod Expressions
+pub mod Calls
+pub mod Areas
+pub mod Initializers
+pub mod Statements
+pub mod Items
+pub mod WellTyped
+pub mod Examples
+pub mod Laws
+pub mod Contexts
+pub mod TypesAgree
+pub mod Clean
+pub mod Picked

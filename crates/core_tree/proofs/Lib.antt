@@ -1,0 +1,3 @@
+pub mod View
+pub mod Sites
+pub mod Examples

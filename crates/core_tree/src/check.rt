@@ -1,4 +1,5 @@
-use iv_words::Span;
+use iv_words::{Copied, Memory, Span};
+use std::alloc::Global;
 
 /// What a check guards against: a result or a conversion that does not fit, a division by zero, a shift by the width or more, an index
 /// out of its range, or a condition of an `assert`, a `requires` or an `ensures` that is false.
@@ -20,4 +21,10 @@ pub struct Check {
     pub site: u32,
     pub kind: SiteKind,
     pub span: Span,
+}
+
+impl Copied for Check {
+    fn copied(&self, _alloc: Global) -> Result<Check, Memory> {
+        Ok(*self)
+    }
 }

@@ -2,5 +2,20 @@
 #![tactic(auto)]
 
 mod check;
+mod exports;
+mod expr;
+mod init;
+mod items;
+pub mod laws;
+mod resolved;
+mod stmt;
+#[cfg(test)]
+mod tests;
 
 pub use check::{Check, SiteKind};
+pub use exports::exports_of;
+pub use expr::{CoreExpr, CoreKind, CoreLink, CoreStep};
+pub use init::CoreInit;
+pub use items::{CoreArea, CoreContract, CoreImport, CoreParam, CoreProc};
+pub use resolved::Core;
+pub use stmt::{CoreCall, CoreStmt};

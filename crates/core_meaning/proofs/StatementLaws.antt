@@ -20,7 +20,7 @@ use Rattle.core_meaning.specs.Areas.{Held, type_at, held_at}
 use Rattle.core_meaning.specs.State.{State, seen, leave}
 use Rattle.core_meaning.specs.Initializers.{init_value, init_values, first_value, part_types}
 use Rattle.core_meaning.specs.Conditions.{Ensured, tested, tested_all}
-use Rattle.core_meaning.specs.Imports.{pieces_of, reply_shape, asked, outside}
+use Rattle.core_meaning.specs.Imports.{pieces_of, reply_shape, asking, outside}
 use Rattle.core_meaning.specs.Calls.{Calls, called, call}
 use Rattle.core_meaning.specs.Statements.{Flow, naming, store, copied, copy, turn, returning, exec, exec_all}
 use Rattle.core_meaning.proofs.ExpressionLaws.{formless_lawful, passes_lawful, on_number_lawful, on_truth_lawful, on_reference_lawful, on_some_lawful, choice_of_lawful, eval_lawful, eval_all_lawful}
@@ -58,12 +58,12 @@ tested_all_lawful core outcome (c ∷ cs) = bind_lawful _ _ (tested_lawful core 
 
 -- ---- calls
 
-asked_lawful : (core : ModuleCore) (i : ImportCore) (args : List Value) (pieces : List Piece) (shape : List Plain) → Lawful (asked core i args pieces shape)
-asked_lawful core i args pieces shape = tick_lawful _ (bind_lawful _ _ (import_call_lawful (seen core) i.name pieces shape) (λ reply. change_lawful _ _))
+asking_lawful : (core : ModuleCore) (i : ImportCore) (args : List Value) (pieces : List Piece) (shape : List Plain) → Lawful (asking core i args pieces shape)
+asking_lawful core i args pieces shape = tick_lawful _ (bind_lawful _ _ (import_call_lawful (seen core) i.name pieces shape) (λ reply. change_lawful _ _))
 
 outside_lawful : (core : ModuleCore) (i : ImportCore) (args : List Value) → Lawful (outside core i args)
 outside_lawful core i args =
-    by_state_lawful _ (λ s. on_some_lawful core (pieces_of s.areas args) _ (λ pieces. on_some_lawful core (reply_shape core i) _ (asked_lawful core i args pieces)))
+    by_state_lawful _ (λ s. on_some_lawful core (pieces_of s.areas args) _ (λ pieces. on_some_lawful core (reply_shape core i) _ (asking_lawful core i args pieces)))
 
 module _ (core : ModuleCore) (calls : Calls) (calls_lawful : (number : ℕ) (args : List Value) → Lawful (calls number args)) where
   called_lawful : (c : CallCore) (args : List Value) → Lawful (called core calls c args)

@@ -16,7 +16,8 @@ use Rattle.core_meaning.specs.State.{State, seen}
 abbrev pub lost : {A : Type 0} → ModuleCore → Part State A
 lost core = halt (seen core) (NoMeaning Dead)
 
--- And none where a form stands that no valid module has. What this depends on is looked at before the form's step.
+-- And none where a form stands that no valid module has. What a form depends on is looked at before its step; whether a call has the
+-- result that is wanted, behind it.
 abbrev pub formless : {A : Type 0} → ModuleCore → Part State A
 formless core = halt (seen core) (NoMeaning Dead)
 

@@ -25,6 +25,7 @@ abbrev pub piece_of : Areas → Value → Option Piece
 piece_of areas (Num v) = Some (piece.Value v)
 piece_of areas (Ref k path) = option_map piece.Cells (cells_at areas k path)
 
+-- of all arguments; none where a reference leads to no part
 abbrev pub pieces_of : Areas → List Value → Option (List Piece)
 pieces_of areas [] = Some []
 pieces_of areas (v ∷ vs) = option_and_then (λ p. option_map (λ ps. p ∷ ps) (pieces_of areas vs)) (piece_of areas v)
@@ -34,17 +35,17 @@ abbrev pub writable : ModuleCore → ValueType → Option Written
 writable core (syntax.Ref false region target) = Some (written_out core.structs target)
 writable core _ = None
 
-abbrev pub cells_of : Option Written → List ValueType
-cells_of None = []
-cells_of (Some ty) = scalars ty
+abbrev pub scalars_of : Option Written → List ValueType
+scalars_of None = []
+scalars_of (Some ty) = scalars ty
 
--- an import writes truths and numbers of a kind alone
+-- an import writes truths and numbers of a kind alone: there is no shape where it would write something else
 abbrev pub plains_of : List ValueType → Option (List Plain)
 plains_of [] = Some []
 plains_of (t ∷ ts) = option_and_then (λ p. option_map (λ ps. p ∷ ps) (plains_of ts)) (plain_of t)
 
 abbrev pub reply_shape : ModuleCore → ImportCore → Option (List Plain)
-reply_shape core i = option_map (λ cells. option_to_list i.result ++ cells) (plains_of (flat_map (λ t. cells_of (writable core t)) i.params))
+reply_shape core i = option_map (λ cells. option_to_list i.result ++ cells) (plains_of (flat_map (λ t. scalars_of (writable core t)) i.params))
 
 -- what is left of a reply behind the cells of a parameter
 abbrev pub behind : Option Written → List ℤ → List ℤ
@@ -74,9 +75,9 @@ abbrev pub after_reply : ModuleCore → ImportCore → List Value → List ℤ �
 after_reply core i args reply s = record s { areas = all_written core i.params args (cells_in i.result reply) s.areas }
 
 -- the call's step, and then the outside sees the call and replies
-abbrev pub asked : ModuleCore → ImportCore → List Value → List Piece → (shape : List Plain) → Part State (Option Value)
-asked core i args pieces shape = tick (bind (import_call (seen core) i.name pieces shape) (λ reply. change (result_in i.result reply) (after_reply core i args reply)))
+abbrev pub asking : ModuleCore → ImportCore → List Value → List Piece → (shape : List Plain) → Part State (Option Value)
+asking core i args pieces shape = tick (bind (import_call (seen core) i.name pieces shape) (λ reply. change (result_in i.result reply) (after_reply core i args reply)))
 
 -- once the arguments are there
 abbrev pub outside : ModuleCore → ImportCore → List Value → Part State (Option Value)
-outside core i args = by_state (λ s. on_some core (pieces_of s.areas args) (λ pieces. on_some core (reply_shape core i) (asked core i args pieces)))
+outside core i args = by_state (λ s. on_some core (pieces_of s.areas args) (λ pieces. on_some core (reply_shape core i) (asking core i args pieces)))

@@ -59,7 +59,8 @@ abbrev mutual
   exec core calls ensured (Call c) = bind (call core calls c) (λ result. give Falls)
   exec core calls ensured (If e a) = choice core (eval core None e) (block leave (exec_all core calls ensured a)) (give Falls)
   exec core calls ensured (IfElse e a b) = choice core (eval core None e) (block leave (exec_all core calls ensured a)) (block leave (exec_all core calls ensured b))
-  -- a loop that counts: its step, and then so many turns behind its first one, and that one's number; `forever` has its turns' steps alone
+  -- a loop that counts takes its step, and then its first turn and the others: how many come behind the first, what follows a number, and
+  -- the first number; `forever` has its turns' steps alone
   exec core calls ensured (Map number length a) = tick (counted (pred length) suc 0 (turn number (exec_all core calls ensured a)))
   exec core calls ensured (Upto number length e a) =
       bind (eval core None e) (λ x. on_number core x (λ last. tick (counted (unsigned_abs last) suc 0 (turn number (exec_all core calls ensured a)))))

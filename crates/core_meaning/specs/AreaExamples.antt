@@ -138,10 +138,12 @@ byte_init v = One (constant u8 v)
 abbrev pub mixed_value : ℕ → Held → Held → Held
 mixed_value a x y = Parts (Cons (Cell (pos a)) (Cons (Parts (Cons x (Cons y Nil))) Nil))
 
+-- `{1, {{2}, {3, 4}}}`
+abbrev pub nested_init : InitCore
+nested_init = braces (byte_init 1 ∷ braces (braces (byte_init 2 ∷ []) ∷ braces (byte_init 3 ∷ byte_init 4 ∷ []) ∷ []) ∷ [])
+
 pub record InitializerExamples : Type 0 where
-  -- `= {1, {{2}, {3, 4}}}`
-  pub all : (w : World) (s : State)
-      → first_value empty (Some (braces (byte_init 1 ∷ braces (braces (byte_init 2 ∷ []) ∷ braces (byte_init 3 ∷ byte_init 4 ∷ []) ∷ []) ∷ []))) mixed 0 w s ≡ Finished (mixed_value 1 (pair 2 0) (pair 3 4)) w s 0
+  pub all : (w : World) (s : State) → first_value empty (Some nested_init) mixed 0 w s ≡ Finished (mixed_value 1 (pair 2 0) (pair 3 4)) w s 0
   -- `= {1}`, and none
   pub fewer : (w : World) (s : State) → first_value empty (Some (braces (byte_init 1 ∷ []))) mixed 0 w s ≡ Finished (mixed_value 1 (pair 0 0) (pair 0 0)) w s 0
   pub none : (w : World) (s : State) → first_value empty None mixed 0 w s ≡ Finished (mixed_value 0 (pair 0 0) (pair 0 0)) w s 0

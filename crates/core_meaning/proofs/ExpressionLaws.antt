@@ -1,6 +1,6 @@
 -- Expressions keep the laws of parts, form by form.
 use Rattle.std.proofs.Common.{ℕ, ℤ, Bool, List, [], ◌∷◌, Option, Some, None, Ok, Err}
-use Rattle.std.specs.Prelude.{pos}
+use Rattle.std.specs.Prelude.{pos, is_some}
 use Rattle.step_semantics.specs.Steps.{FailedCheck, Part, give, halt}
 use Rattle.step_semantics.specs.Lawful.{Lawful}
 use Rattle.step_semantics.proofs.Laws.{give_lawful, halt_lawful, bind_lawful, tick_lawful, by_state_lawful, choice_lawful}
@@ -10,16 +10,20 @@ use Rattle.ivory_tree.specs.declared.BinOp.TheVariants.{OrElse, AndAlso}
 use Rattle.ivory_tree.specs.declared.PrefixOp.{PrefixOp}
 use Rattle.ivory_tree.specs.declared.PrefixOp.TheVariants.{Neg, Not, Flip, Deref}
 use Rattle.area_types.specs.Syntax.{ValueType}
-use Rattle.core_tree.specs.Syntax.{ModuleCore, Label, ExprCore, Number, Outcome, Local, AreaName, Cast, ToIndex, WrapIndex, MakeBits, Raw, SetField, Prefix, Binary, Field, Element, Cond, Whole, type_of}
+use Rattle.core_tree.specs.Syntax.{ModuleCore, Label, ExprCore, type_of}
+use Rattle.core_tree.specs.Syntax.{Number, Outcome, Local, AreaName, Cast, ToIndex, WrapIndex, MakeBits, Raw, SetField, Prefix, Binary, Field, Element, Cond, Whole}
 use Rattle.core_meaning.specs.Values.{Value, Num, Ref}
 use Rattle.core_meaning.specs.Areas.{Areas, type_at}
 use Rattle.core_meaning.specs.State.{State, seen, value_of}
-use Rattle.core_meaning.specs.Checks.{lost, passes, Answer, tests_of, answered, checked, on_number, on_truth, on_reference, on_some}
-use Rattle.core_meaning.specs.Answers.{operation, operator_of, cast_to, index_to, wrapped_to, field_set}
+use Rattle.core_meaning.specs.Checks.{lost, formless, passes, Answer, covered, tests_of, answered, answering, on_number, on_truth, on_reference, on_some}
+use Rattle.core_meaning.specs.Answers.{operation, prefix_operation, operator_of, cast_to, index_to, wrapped_to, layout_of, field_set}
 use Rattle.core_meaning.specs.Expressions.{found, read_name, of_number, of_numbers, negated, number_behind, choice, prefixed, combined, field_behind, element_behind, eval, eval_all}
 
 pub lost_lawful : {A : Type 0} (core : ModuleCore) → Lawful (lost {A = A} core)
 lost_lawful core = halt_lawful (seen core) _
+
+pub formless_lawful : {A : Type 0} (core : ModuleCore) → Lawful (formless {A = A} core)
+formless_lawful core = halt_lawful (seen core) _
 
 -- ---- checks, and what forms need
 
@@ -29,44 +33,44 @@ passes_lawful core (check ∷ checks) part l = choice_lawful (passes core checks
 
 answered_lawful : (core : ModuleCore) (answer : Answer) → Lawful (answered core answer)
 answered_lawful core (Ok v) = give_lawful (Num v)
-answered_lawful core (Err failed) = lost_lawful core
+answered_lawful core (Err failed) = formless_lawful core
 
-checked_lawful : (core : ModuleCore) (l : Label) (answer : Answer) → Lawful (checked core l answer)
-checked_lawful core l answer = tick_lawful _ (passes_lawful core (tests_of answer l.checks) (answered core answer) (answered_lawful core answer))
+answering_lawful : (core : ModuleCore) (l : Label) (answer : Answer) → Lawful (answering core l answer)
+answering_lawful core l answer = choice_lawful _ _ (tick_lawful _ (passes_lawful core (tests_of answer l.checks) (answered core answer) (answered_lawful core answer))) (formless_lawful core) (covered answer l.checks)
 
 pub on_number_lawful : {A : Type 0} (core : ModuleCore) (x : Value) (next : ℤ → Part State A) → ((v : ℤ) → Lawful (next v)) → Lawful (on_number core x next)
 on_number_lawful core (Num v) next l = l v
-on_number_lawful core (Ref k path) next l = lost_lawful core
+on_number_lawful core (Ref k path) next l = formless_lawful core
 
 pub on_truth_lawful : {A : Type 0} (core : ModuleCore) (x : Value) (next : Bool → Part State A) → ((b : Bool) → Lawful (next b)) → Lawful (on_truth core x next)
 on_truth_lawful core (Num v) next l = l _
-on_truth_lawful core (Ref k path) next l = lost_lawful core
+on_truth_lawful core (Ref k path) next l = formless_lawful core
 
 pub on_reference_lawful : {A : Type 0} (core : ModuleCore) (x : Value) (next : ℕ → List ℕ → Part State A) → ((k : ℕ) (path : List ℕ) → Lawful (next k path)) → Lawful (on_reference core x next)
-on_reference_lawful core (Num v) next l = lost_lawful core
+on_reference_lawful core (Num v) next l = formless_lawful core
 on_reference_lawful core (Ref k path) next l = l k path
 
 pub on_some_lawful : {A B : Type 0} (core : ModuleCore) (x : Option A) (next : A → Part State B) → ((a : A) → Lawful (next a)) → Lawful (on_some core x next)
-on_some_lawful core None next l = lost_lawful core
+on_some_lawful core None next l = formless_lawful core
 on_some_lawful core (Some a) next l = l a
 
 -- ---- names
 
 found_lawful : (core : ModuleCore) (areas : Areas) (x : Value) → Lawful (found core areas x)
 found_lawful core areas (Num v) = give_lawful (Num v)
-found_lawful core areas (Ref k path) = on_some_lawful core (type_at areas k path) _ (λ ty. give_lawful (Ref k path))
+found_lawful core areas (Ref k path) = choice_lawful (give (Ref k path)) (lost core) (give_lawful (Ref k path)) (lost_lawful core) (is_some (type_at areas k path))
 
 read_name_lawful : (core : ModuleCore) (look : State → Option Value) → Lawful (read_name core look)
 read_name_lawful core look = by_state_lawful _ (λ s. on_some_lawful core (look s) (found core s.areas) (found_lawful core s.areas))
 
 -- ---- forms
 
-of_number_lawful : (core : ModuleCore) (l : Label) (answer : ℤ → Answer) (part : Part State Value) → Lawful part → Lawful (of_number core l answer part)
-of_number_lawful core l answer part h = bind_lawful part _ h (λ x. on_number_lawful core x _ (λ a. checked_lawful core l (answer a)))
+of_number_lawful : (core : ModuleCore) (l : Label) (form : Option (ℤ → Answer)) (part : Part State Value) → Lawful part → Lawful (of_number core l form part)
+of_number_lawful core l form part h = on_some_lawful core form _ (λ answer. bind_lawful part _ h (λ x. on_number_lawful core x _ (λ a. answering_lawful core l (answer a))))
 
-of_numbers_lawful : (core : ModuleCore) (l : Label) (answer : ℤ → ℤ → Answer) (left right : Part State Value) → Lawful left → Lawful right → Lawful (of_numbers core l answer left right)
-of_numbers_lawful core l answer left right h g =
-    bind_lawful left _ h (λ x. bind_lawful right _ g (λ y. on_number_lawful core x _ (λ a. on_number_lawful core y _ (λ b. checked_lawful core l (answer a b)))))
+of_numbers_lawful : (core : ModuleCore) (l : Label) (form : Option (ℤ → ℤ → Answer)) (left right : Part State Value) → Lawful left → Lawful right → Lawful (of_numbers core l form left right)
+of_numbers_lawful core l form left right h g =
+    on_some_lawful core form _ (λ answer. bind_lawful left _ h (λ x. bind_lawful right _ g (λ y. on_number_lawful core x _ (λ a. on_number_lawful core y _ (λ b. answering_lawful core l (answer a b))))))
 
 negated_lawful : (core : ModuleCore) (part : Part State Value) → Lawful part → Lawful (negated core part)
 negated_lawful core part h = bind_lawful part _ h (λ x. on_truth_lawful core x _ (λ holds. tick_lawful _ (give_lawful _)))
@@ -79,9 +83,9 @@ pub choice_of_lawful : {A : Type 0} (core : ModuleCore) (test : Part State Value
 choice_of_lawful core test first second h f g = bind_lawful test _ h (λ x. on_truth_lawful core x _ (λ holds. tick_lawful _ (choice_lawful first second f g holds)))
 
 prefixed_lawful : (core : ModuleCore) (l : Label) (o : PrefixOp) (ty : ValueType) (part : Part State Value) → Lawful part → Lawful (prefixed core l o ty part)
-prefixed_lawful core l Neg ty part h = of_number_lawful core l (λ a. operation op.Neg ty a a) part h
+prefixed_lawful core l Neg ty part h = of_number_lawful core l (prefix_operation op.Neg ty) part h
 prefixed_lawful core l Not ty part h = negated_lawful core part h
-prefixed_lawful core l Flip ty part h = of_number_lawful core l (λ a. operation op.Not ty a a) part h
+prefixed_lawful core l Flip ty part h = of_number_lawful core l (prefix_operation op.Not ty) part h
 prefixed_lawful core l Deref ty part h = number_behind_lawful core part h
 
 combined_lawful : (core : ModuleCore) (l : Label) (o : BinOp) (ty : ValueType) (left right : Part State Value) → Lawful left → Lawful right → Lawful (combined core l o ty left right)
@@ -90,7 +94,7 @@ combined_lawful core l AndAlso ty left right h g = choice_of_lawful core left ri
 combined_lawful core l o ty left right h g = of_numbers_lawful core l (operation (operator_of o) ty) left right h g
 
 field_behind_lawful : (core : ModuleCore) (ty : ValueType) (field : ℕ) (x : Value) → Lawful (field_behind core ty field x)
-field_behind_lawful core ty field (Num word) = tick_lawful _ (give_lawful _)
+field_behind_lawful core ty field (Num word) = on_some_lawful core (layout_of core ty) _ (λ layout. tick_lawful _ (give_lawful _))
 field_behind_lawful core ty field (Ref k path) = tick_lawful _ (give_lawful _)
 
 element_behind_lawful : (core : ModuleCore) (x y : Value) → Lawful (element_behind core x y)
@@ -105,8 +109,8 @@ module _ (core : ModuleCore) (outcome : Option Value) where
   eval_lawful (Cast l e) = of_number_lawful core l (cast_to l.ty) _ (eval_lawful e)
   eval_lawful (ToIndex l e) = of_number_lawful core l (index_to l.ty) _ (eval_lawful e)
   eval_lawful (WrapIndex l e) = of_number_lawful core l (wrapped_to l.ty) _ (eval_lawful e)
-  eval_lawful (MakeBits l e) = of_number_lawful core l Ok _ (eval_lawful e)
-  eval_lawful (Raw l e) = of_number_lawful core l Ok _ (eval_lawful e)
+  eval_lawful (MakeBits l e) = of_number_lawful core l (Some Ok) _ (eval_lawful e)
+  eval_lawful (Raw l e) = of_number_lawful core l (Some Ok) _ (eval_lawful e)
   eval_lawful (SetField l e field value) = of_numbers_lawful core l (field_set core (type_of e) field) _ _ (eval_lawful e) (eval_lawful value)
   eval_lawful (Prefix l o e) = prefixed_lawful core l o (type_of e) _ (eval_lawful e)
   eval_lawful (Binary l o left right) = combined_lawful core l o (type_of left) _ _ (eval_lawful left) (eval_lawful right)

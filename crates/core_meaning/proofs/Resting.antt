@@ -1,6 +1,7 @@
 -- Expressions change nothing, form by form.
 use Rattle.std.proofs.Common.{◌≡◌, ℕ, zero, suc, ℤ, Bool, true, false, List, [], ◌∷◌, Option, Some, None, Ok, Err, refl, sym, ◌∙◌, ap, subst}
 use Rattle.std.specs.Prelude.{pos, not, if◌then◌else◌, is_some}
+use Rattle.std.specs.Option.{option_map}
 use Rattle.step_semantics.specs.Steps.{World, FailedCheck, Progress, Finished, Halted, Exhausted, Part, give, halt, after, bind, tick, by_state}
 use Rattle.int_ops.specs.Operators.{truth}
 use Rattle.int_ops.specs.declared.Op.TheVariants as op
@@ -8,13 +9,15 @@ use Rattle.ivory_tree.specs.declared.BinOp.{BinOp}
 use Rattle.ivory_tree.specs.declared.BinOp.TheVariants.{OrElse, AndAlso}
 use Rattle.ivory_tree.specs.declared.PrefixOp.{PrefixOp}
 use Rattle.ivory_tree.specs.declared.PrefixOp.TheVariants.{Neg, Not, Flip, Deref}
+use Rattle.bit_data.specs.Fields.{field_of}
 use Rattle.area_types.specs.Syntax.{ValueType}
-use Rattle.core_tree.specs.Syntax.{ModuleCore, Label, ExprCore, Number, Outcome, Local, AreaName, Cast, ToIndex, WrapIndex, MakeBits, Raw, SetField, Prefix, Binary, Field, Element, Cond, Whole, type_of}
+use Rattle.core_tree.specs.Syntax.{ModuleCore, Label, ExprCore, type_of}
+use Rattle.core_tree.specs.Syntax.{Number, Outcome, Local, AreaName, Cast, ToIndex, WrapIndex, MakeBits, Raw, SetField, Prefix, Binary, Field, Element, Cond, Whole}
 use Rattle.core_meaning.specs.Values.{Value, Num, Ref}
-use Rattle.core_meaning.specs.Areas.{type_at, cell_at}
+use Rattle.core_meaning.specs.Areas.{type_at, number_at}
 use Rattle.core_meaning.specs.State.{State, value_of, seen}
-use Rattle.core_meaning.specs.Checks.{passes, Answer, tests_of, answered, checked, on_number, on_truth, on_reference, on_some}
-use Rattle.core_meaning.specs.Answers.{operation, operator_of, cast_to, index_to, wrapped_to, field_set}
+use Rattle.core_meaning.specs.Checks.{lost, formless, passes, Answer, covered, tests_of, answered, answering, on_number, on_truth, on_reference, on_some}
+use Rattle.core_meaning.specs.Answers.{operation, prefix_operation, operator_of, cast_to, index_to, wrapped_to, layout_of, field_set}
 use Rattle.core_meaning.specs.Expressions.{found, read_name, of_number, of_numbers, negated, number_behind, choice, prefixed, combined, field_behind, element_behind, eval}
 use Rattle.core_meaning.specs.Gives.{Given, Leads, NameGives, OfNumber, OfNumbers, is_true, Negated, CellGives, Chosen, Choice, FieldGives, ElementGives, PrefixGives, BinaryGives, Gives, Rests}
 use Rattle.core_meaning.specs.Laws.{ExpressionsChangeNothing}
@@ -50,9 +53,14 @@ module _ (core : ModuleCore) where
   rests_answered w s (Ok v) n = ((v, refl, refl), refl, refl)
   rests_answered w s (Err failed) n = (refl, refl)
 
-  rests_checked : (w : World) (s : State) (l : Label) (answer : Answer) (n : ℕ) → Rests core (Answered answer) w s (checked core l answer n w s)
-  rests_checked w s l answer n =
+  rests_past : (w : World) (s : State) (l : Label) (answer : Answer) (n : ℕ) → Rests core (Answered answer) w s (tick (passes core (tests_of answer l.checks) (answered core answer)) n w s)
+  rests_past w s l answer n =
       rests_tick (Answered answer) w s (passes core (tests_of answer l.checks) (answered core answer)) (λ m. rests_passes (Answered answer) w s (tests_of answer l.checks) (answered core answer) m (rests_answered w s answer m)) n
+
+  rests_answering : (w : World) (s : State) (l : Label) (answer : Answer) (n : ℕ) → Rests core (Answered answer) w s (answering core l answer n w s)
+  rests_answering w s l answer n =
+      rests_if (Answered answer) w s (covered answer l.checks) (tick (passes core (tests_of answer l.checks) (answered core answer))) (formless core) n
+      (λ e. rests_past w s l answer n) (λ e. (refl, refl))
 
   -- what is weaker
   pub rests_weaker : {A : Type 0} (given gives : A → Type 0) (w : World) (s : State) (r : Progress State A) → ((a : A) → given a → gives a) → Rests core given w s r → Rests core gives w s r
@@ -88,30 +96,32 @@ module _ (core : ModuleCore) where
     found_rests : (x : Value) (n : ℕ) → Rests core (λ y. (y ≡ x) × Leads s.areas y) w s (found core s.areas x n w s)
     found_rests (Num v) n = ((refl, tt), refl, refl)
     found_rests (Ref k path) n =
-        rests_on_some (λ y. (y ≡ Ref k path) × Leads s.areas y) w s (type_at s.areas k path) (λ ty. give (Ref k path)) n (λ ty e. ((refl, ap is_some e), refl, refl))
+        rests_if (λ y. (y ≡ Ref k path) × Leads s.areas y) w s (is_some (type_at s.areas k path)) (give (Ref k path)) (lost core) n (λ e. ((refl, e), refl, refl)) (λ e. (refl, refl))
 
     name_rests : (look : State → Option Value) → Rest (NameGives s (look s)) (read_name core look)
     name_rests look n =
         rests_on_some (NameGives s (look s)) w s (look s) (found core s.areas) n (λ x e.
         rests_weaker (λ y. (y ≡ x) × Leads s.areas y) (NameGives s (look s)) w s (found core s.areas x n w s) (λ y h. record { has = e ∙ ap Some (sym h.0); leads = h.1 }) (found_rests x n))
 
-    of_number_rests : (l : Label) (answer : ℤ → Answer) (given : Given) (part : Part State Value) → Rest given part → Rest (OfNumber answer given) (of_number core l answer part)
-    of_number_rests l answer given part h n =
-        rests_after given (OfNumber answer given) w s (part n w s) (λ x. on_number core x (λ a. checked core l (answer a))) (h n) (λ x g m.
-        rests_on_number (OfNumber answer given) w s x (λ a. checked core l (answer a)) m (λ a e.
-        rests_weaker (Answered (answer a)) (OfNumber answer given) w s (checked core l (answer a) m w s)
-        (λ y r. record { operand = a; is_given = subst given e g; number = r.0; answers = r.1; is = r.2 }) (rests_checked w s l (answer a) m)))
+    of_number_rests : (l : Label) (form : Option (ℤ → Answer)) (given : Given) (part : Part State Value) → Rest given part → Rest (OfNumber form given) (of_number core l form part)
+    of_number_rests l form given part h n =
+        rests_on_some (OfNumber form given) w s form (λ answer. bind part (λ x. on_number core x (λ a. answering core l (answer a)))) n (λ answer there.
+        rests_after given (OfNumber form given) w s (part n w s) (λ x. on_number core x (λ a. answering core l (answer a))) (h n) (λ x g m.
+        rests_on_number (OfNumber form given) w s x (λ a. answering core l (answer a)) m (λ a e.
+        rests_weaker (Answered (answer a)) (OfNumber form given) w s (answering core l (answer a) m w s)
+        (λ y r. record { answer = answer; has = there; operand = a; is_given = subst given e g; number = r.0; answers = r.1; is = r.2 }) (rests_answering w s l (answer a) m))))
 
-    of_numbers_rests : (l : Label) (answer : ℤ → ℤ → Answer) (given gives : Given) (left right : Part State Value) → Rest given left → Rest gives right
-        → Rest (OfNumbers answer given gives) (of_numbers core l answer left right)
-    of_numbers_rests l answer given gives left right h f n =
-        rests_after given (OfNumbers answer given gives) w s (left n w s) (λ x. bind right (λ y. on_number core x (λ a. on_number core y (λ b. checked core l (answer a b))))) (h n) (λ x g m.
-        rests_after gives (OfNumbers answer given gives) w s (right m w s) (λ y. on_number core x (λ a. on_number core y (λ b. checked core l (answer a b)))) (f m) (λ y i k.
-        rests_on_number (OfNumbers answer given gives) w s x (λ a. on_number core y (λ b. checked core l (answer a b))) k (λ a e.
-        rests_on_number (OfNumbers answer given gives) w s y (λ b. checked core l (answer a b)) k (λ b d.
-        rests_weaker (Answered (answer a b)) (OfNumbers answer given gives) w s (checked core l (answer a b) k w s)
-        (λ z r. record { first = a; first_given = subst given e g; second = b; second_given = subst gives d i; number = r.0; answers = r.1; is = r.2 })
-        (rests_checked w s l (answer a b) k)))))
+    of_numbers_rests : (l : Label) (form : Option (ℤ → ℤ → Answer)) (given gives : Given) (left right : Part State Value) → Rest given left → Rest gives right
+        → Rest (OfNumbers form given gives) (of_numbers core l form left right)
+    of_numbers_rests l form given gives left right h f n =
+        rests_on_some (OfNumbers form given gives) w s form (λ answer. bind left (λ x. bind right (λ y. on_number core x (λ a. on_number core y (λ b. answering core l (answer a b)))))) n (λ answer there.
+        rests_after given (OfNumbers form given gives) w s (left n w s) (λ x. bind right (λ y. on_number core x (λ a. on_number core y (λ b. answering core l (answer a b))))) (h n) (λ x g m.
+        rests_after gives (OfNumbers form given gives) w s (right m w s) (λ y. on_number core x (λ a. on_number core y (λ b. answering core l (answer a b)))) (f m) (λ y i k.
+        rests_on_number (OfNumbers form given gives) w s x (λ a. on_number core y (λ b. answering core l (answer a b))) k (λ a e.
+        rests_on_number (OfNumbers form given gives) w s y (λ b. answering core l (answer a b)) k (λ b d.
+        rests_weaker (Answered (answer a b)) (OfNumbers form given gives) w s (answering core l (answer a b) k w s)
+        (λ z r. record { answer = answer; has = there; first = a; first_given = subst given e g; second = b; second_given = subst gives d i; number = r.0; answers = r.1; is = r.2 })
+        (rests_answering w s l (answer a b) k))))))
 
     negated_rests : (given : Given) (part : Part State Value) → Rest given part → Rest (Negated given) (negated core part)
     negated_rests given part h n =
@@ -121,9 +131,9 @@ module _ (core : ModuleCore) where
 
     cell_rests : (given : Given) (part : Part State Value) → Rest given part → Rest (CellGives s.areas given) (number_behind core part)
     cell_rests given part h n =
-        rests_after given (CellGives s.areas given) w s (part n w s) (λ x. on_reference core x (λ k path. by_state (λ t. on_some core (cell_at t.areas k path) (λ v. tick (give (Num v)))))) (h n) (λ x g m.
-        rests_on_reference (CellGives s.areas given) w s x (λ k path. by_state (λ t. on_some core (cell_at t.areas k path) (λ v. tick (give (Num v))))) m (λ k path e.
-        rests_on_some (CellGives s.areas given) w s (cell_at s.areas k path) (λ v. tick (give (Num v))) m (λ v d.
+        rests_after given (CellGives s.areas given) w s (part n w s) (λ x. on_reference core x (λ k path. by_state (λ t. on_some core (number_at t.areas k path) (λ v. tick (give (Num v)))))) (h n) (λ x g m.
+        rests_on_reference (CellGives s.areas given) w s x (λ k path. by_state (λ t. on_some core (number_at t.areas k path) (λ v. tick (give (Num v))))) m (λ k path e.
+        rests_on_some (CellGives s.areas given) w s (number_at s.areas k path) (λ v. tick (give (Num v))) m (λ v d.
         rests_tick (CellGives s.areas given) w s (give (Num v)) (λ j. (record { area = k; path = path; is_given = subst given e g; number = v; holds = d; is = refl }, refl, refl)) m)))
 
     choice_rests : (given gives other : Given) (test first second : Part State Value) → Rest given test → Rest gives first → Rest other second
@@ -137,9 +147,9 @@ module _ (core : ModuleCore) where
         (λ b. rests_weaker other (Choice given gives other) w s (second k w s) (λ y r. record { operand = v; is_given = subst given e g; chosen = subst (λ c. Chosen c (gives y) (other y)) (sym b) r }) (i k))) m))
 
     prefixed_rests : (l : Label) (o : PrefixOp) (ty : ValueType) (given : Given) (part : Part State Value) → Rest given part → Rest (PrefixGives s.areas o ty given) (prefixed core l o ty part)
-    prefixed_rests l Neg ty given part h = of_number_rests l (λ a. operation op.Neg ty a a) given part h
+    prefixed_rests l Neg ty given part h = of_number_rests l (prefix_operation op.Neg ty) given part h
     prefixed_rests l Not ty given part h = negated_rests given part h
-    prefixed_rests l Flip ty given part h = of_number_rests l (λ a. operation op.Not ty a a) given part h
+    prefixed_rests l Flip ty given part h = of_number_rests l (prefix_operation op.Not ty) given part h
     prefixed_rests l Deref ty given part h = cell_rests given part h
 
     combined_rests : (l : Label) (o : BinOp) (ty : ValueType) (given gives : Given) (left right : Part State Value) → Rest given left → Rest gives right
@@ -149,7 +159,10 @@ module _ (core : ModuleCore) where
     combined_rests l o ty given gives left right h f = of_numbers_rests l (operation (operator_of o) ty) given gives left right h f
 
     field_rests : (ty : ValueType) (field : ℕ) (given : Given) (x : Value) → given x → (n : ℕ) → Rests core (FieldGives core ty field given) w s (field_behind core ty field x n w s)
-    field_rests ty field given (Num word) g n = rests_tick (FieldGives core ty field given) w s _ (λ m. (record { operand = Num word; is_given = g; is = refl }, refl, refl)) n
+    field_rests ty field given (Num word) g n =
+        rests_on_some (FieldGives core ty field given) w s (layout_of core ty) (λ layout. tick (give (Num (field_of layout field word)))) n (λ layout e.
+        rests_tick (FieldGives core ty field given) w s (give (Num (field_of layout field word)))
+        (λ m. (record { operand = Num word; is_given = g; is = ap (option_map (λ l. Num (field_of l field word))) e }, refl, refl)) n)
     field_rests ty field given (Ref k path) g n = rests_tick (FieldGives core ty field given) w s _ (λ m. (record { operand = Ref k path; is_given = g; is = refl }, refl, refl)) n
 
     element_rests : (given gives : Given) (x y : Value) → given x → gives y → (n : ℕ) → Rests core (ElementGives given gives) w s (element_behind core x y n w s)
@@ -167,8 +180,8 @@ module _ (core : ModuleCore) where
       eval_rests (Cast l e) n = of_number_rests l (cast_to l.ty) (Gives core outcome s e) (eval core outcome e) (eval_rests e) n
       eval_rests (ToIndex l e) n = of_number_rests l (index_to l.ty) (Gives core outcome s e) (eval core outcome e) (eval_rests e) n
       eval_rests (WrapIndex l e) n = of_number_rests l (wrapped_to l.ty) (Gives core outcome s e) (eval core outcome e) (eval_rests e) n
-      eval_rests (MakeBits l e) n = of_number_rests l Ok (Gives core outcome s e) (eval core outcome e) (eval_rests e) n
-      eval_rests (Raw l e) n = of_number_rests l Ok (Gives core outcome s e) (eval core outcome e) (eval_rests e) n
+      eval_rests (MakeBits l e) n = of_number_rests l (Some Ok) (Gives core outcome s e) (eval core outcome e) (eval_rests e) n
+      eval_rests (Raw l e) n = of_number_rests l (Some Ok) (Gives core outcome s e) (eval core outcome e) (eval_rests e) n
       eval_rests (SetField l e field value) n =
           of_numbers_rests l (field_set core (type_of e) field) (Gives core outcome s e) (Gives core outcome s value) (eval core outcome e) (eval core outcome value) (eval_rests e) (eval_rests value) n
       eval_rests (Prefix l o e) n = prefixed_rests l o (type_of e) (Gives core outcome s e) (eval core outcome e) (eval_rests e) n

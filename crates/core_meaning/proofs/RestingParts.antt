@@ -1,11 +1,14 @@
 -- Arguments, conditions and initializers change nothing.
-use Rattle.std.proofs.Common.{ℕ, List, [], ◌∷◌, Option, Some, None, refl, subst}
+use Rattle.std.proofs.Common.{ℕ, ℤ, List, [], ◌∷◌, Option, Some, None, refl, subst}
 use Rattle.step_semantics.specs.Steps.{World, FailedCheck, give, halt, bind, tick}
+use Rattle.type_trees.specs.Trees.{Leaf, Many, Struct}
+use Rattle.type_trees.specs.Values as tree
 use Rattle.type_trees.specs.Values.{Cell, Parts, Cons}
 use Rattle.area_types.specs.Trees.{Written}
 use Rattle.core_tree.specs.declared.Check.{Check}
 use Rattle.core_tree.specs.Syntax.{ModuleCore, ExprCore, ContractCore, InitCore, One, Many as Braces, InitsCore, NoInits, MoreInits}
 use Rattle.core_meaning.specs.Values.{Value}
+use Rattle.core_meaning.specs.Areas.{Held}
 use Rattle.core_meaning.specs.State.{State, seen}
 use Rattle.core_meaning.specs.Checks.{passes, on_number, on_truth}
 use Rattle.core_meaning.specs.Expressions.{eval, eval_all}
@@ -40,13 +43,22 @@ module _ (core : ModuleCore) (w : World) (s : State) where
         rests_weaker core (λ u. AllHold core outcome s cs) (λ u. AllHold core outcome s (c ∷ cs)) w s (tested_all core outcome cs m w s) (λ u g. (h, g)) (tested_all_rests cs m))
 
   -- ---- initializers
+  braces_rest : (is : InitsCore) (types : List Written) (gives : Held → Type 0) → ((vs : tree.Values ℤ) → InitsGive core s is types vs → gives (Parts vs)) → (n : ℕ)
+      → Rests core (InitsGive core s is types) w s (init_values core is types n w s) → Rests core gives w s (bind (init_values core is types) (λ vs. give (Parts vs)) n w s)
+  braces_rest is types gives f n h =
+      rests_after core (InitsGive core s is types) gives w s (init_values core is types n w s) (λ vs. give (Parts vs)) h (λ vs g m. (f vs g, refl, refl))
+
   mutual
     init_rests : (i : InitCore) (ty : Written) (n : ℕ) → Rests core (InitGives core s i ty) w s (init_value core i ty n w s)
-    init_rests (One e) ty n =
-        rests_after core (Gives core None s e) (InitGives core s (One e) ty) w s (eval core None e n w s) (λ x. on_number core x (λ v. give (Cell v))) (eval_rests core w s None e n) (λ x g m.
-        rests_on_number core (InitGives core s (One e) ty) w s x (λ v. give (Cell v)) m (λ v e'. (record { number = v; is_given = subst (Gives core None s e) e' g; is = refl }, refl, refl)))
-    init_rests (Braces is) ty n =
-        rests_after core (InitsGive core s is (part_types ty)) (InitGives core s (Braces is) ty) w s (init_values core is (part_types ty) n w s) (λ vs. give (Parts vs)) (inits_rest is (part_types ty) n) (λ vs g m. ((vs, g, refl), refl, refl))
+    init_rests (One e) (Leaf t) n =
+        rests_after core (Gives core None s e) (InitGives core s (One e) (Leaf t)) w s (eval core None e n w s) (λ x. on_number core x (λ v. give (Cell v))) (eval_rests core w s None e n) (λ x g m.
+        rests_on_number core (InitGives core s (One e) (Leaf t)) w s x (λ v. give (Cell v)) m (λ v e'. (record { number = v; is_given = subst (Gives core None s e) e' g; is = refl }, refl, refl)))
+    init_rests (One e) (Many k a) n = (refl, refl)
+    init_rests (One e) (Struct k fields) n = (refl, refl)
+    init_rests (Braces is) (Leaf t) n = (refl, refl)
+    init_rests (Braces is) (Many k a) n = braces_rest is (part_types (Many k a)) (InitGives core s (Braces is) (Many k a)) (λ vs g. (vs, g, refl)) n (inits_rest is (part_types (Many k a)) n)
+    init_rests (Braces is) (Struct k fields) n =
+        braces_rest is (part_types (Struct k fields)) (InitGives core s (Braces is) (Struct k fields)) (λ vs g. (vs, g, refl)) n (inits_rest is (part_types (Struct k fields)) n)
 
     inits_rest : (is : InitsCore) (types : List Written) (n : ℕ) → Rests core (InitsGive core s is types) w s (init_values core is types n w s)
     inits_rest NoInits types n = (refl, refl, refl)

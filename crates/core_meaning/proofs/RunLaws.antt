@@ -16,7 +16,7 @@ use Rattle.core_meaning.specs.Calls.{Calls, no_procedures}
 use Rattle.core_meaning.specs.Statements.{Flow}
 use Rattle.core_meaning.specs.Run.{result_of, body_of, procedure_call, with_procedure, entry_result, entry_among, entry}
 use Rattle.core_meaning.specs.Laws.{RunsObeyTheirLaws}
-use Rattle.core_meaning.proofs.ExpressionLaws.{lost_lawful}
+use Rattle.core_meaning.proofs.ExpressionLaws.{formless_lawful}
 use Rattle.core_meaning.proofs.StatementLaws.{tested_all_lawful, exec_all_lawful}
 
 abbrev AllLawful : Calls → Type 0
@@ -29,7 +29,7 @@ module _ (core : ModuleCore) where
   result_of_lawful : (p : ProcCore) (flow : Flow) → Lawful (result_of core (ensured core p) flow)
   result_of_lawful p Falls = bind_lawful _ _ (ensured_lawful p None) (λ t. give_lawful None)
   result_of_lawful p (Returned result) = give_lawful result
-  result_of_lawful p Broke = lost_lawful core
+  result_of_lawful p Broke = formless_lawful core
 
   body_of_lawful : (earlier : Calls) → AllLawful earlier → (p : ProcCore) → Lawful (body_of core earlier p)
   body_of_lawful earlier l p =
@@ -44,10 +44,10 @@ module _ (core : ModuleCore) where
   entry_result_lawful : (result : Option Value) → Lawful (entry_result core result)
   entry_result_lawful None = give_lawful None
   entry_result_lawful (Some (Num v)) = give_lawful (Some v)
-  entry_result_lawful (Some (Ref k path)) = lost_lawful core
+  entry_result_lawful (Some (Ref k path)) = formless_lawful core
 
   entry_among_lawful : (earlier : Calls) → AllLawful earlier → (number : ℕ) (procs : List ProcCore) (name : Name) (values : List ℤ) → Lawful (entry_among core earlier number procs name values)
-  entry_among_lawful earlier l number [] name values = lost_lawful core
+  entry_among_lawful earlier l number [] name values = formless_lawful core
   entry_among_lawful earlier l number (p ∷ procs) name values =
       choice_lawful _ _ (bind_lawful _ (entry_result core) (procedure_call_lawful earlier l p (map Num values)) entry_result_lawful)
       (entry_among_lawful (with_procedure core earlier number p) (with_procedure_lawful earlier l number p) (suc number) procs name values)
@@ -55,4 +55,4 @@ module _ (core : ModuleCore) where
 
 pub runs_obey : RunsObeyTheirLaws
 runs_obey core script =
-    run_outcomes (seen core) (entry core) (λ call. entry_among_lawful core (no_procedures core) (λ number args. lost_lawful core) 0 core.procs call.name call.values) (first_state core) script
+    run_outcomes (seen core) (entry core) (λ call. entry_among_lawful core (no_procedures core) (λ number args. formless_lawful core) 0 core.procs call.name call.values) (first_state core) script

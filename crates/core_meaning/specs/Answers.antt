@@ -1,8 +1,9 @@
--- What the forms on numbers answer, by the types of their operands.
-use Rattle.std.specs.Prelude.{ℕ, ℤ, pos, [], get_or, if◌then◌else◌, Result, Ok, Err}
+-- What the forms on numbers answer, by the types of their operands; no answer where a valid module has no such form.
+use Rattle.std.specs.Prelude.{ℕ, ℤ, pos, Bool, true, false, ◌||◌, slice_get, if◌then◌else◌, Option, Some, None, Result, Ok, Err}
+use Rattle.std.specs.Option.{option_map}
 use Rattle.iv_words.specs.Kinds.{in_range}
 use Rattle.iv_words.specs.declared.IntKind.{IntKind}
-use Rattle.iv_words.specs.declared.IntKind.TheVariants.{U8, U16}
+use Rattle.iv_words.specs.declared.IntKind.TheVariants.{U16}
 use Rattle.int_ops.specs.Operators.{exact}
 use Rattle.int_ops.specs.declared.Op.{Op}
 use Rattle.int_ops.specs.declared.Op.TheVariants as op
@@ -14,18 +15,13 @@ use Rattle.index_types.specs.Indices.{is_index, wrapped}
 use Rattle.bit_data.specs.Fields.{changed}
 use Rattle.bit_data.specs.declared.BitLayout.{BitLayout}
 use Rattle.bit_data.specs.declared.TooWide.{TooWide}
-use Rattle.area_types.specs.Syntax.{ValueType, Int, Ix, Bits}
+use Rattle.area_types.specs.Syntax.{ValueType, Truth, Int, Ix, Bits}
 use Rattle.core_tree.specs.declared.SiteKind.{SiteKind}
 use Rattle.core_tree.specs.declared.SiteKind.TheVariants.{Overflow, DivZero, Shift, Index, Cast}
 use Rattle.core_tree.specs.Syntax.{ModuleCore}
 use Rattle.core_meaning.specs.Checks.{Answer}
 
 -- ---- operators
-
--- the kind of an operand's numbers; indices and truths are compared alone, in which no kind differs from another
-abbrev pub kind_of : ValueType → IntKind
-kind_of (Int kind) = kind
-kind_of _ = U16
 
 -- `&&` and `||` are no operators on numbers
 abbrev pub operator_of : BinOp → Op
@@ -60,43 +56,61 @@ abbrev pub stopping : Result ℤ Stop → Answer
 stopping (Ok v) = Ok v
 stopping (Err at) = Err (site_of at)
 
--- what an operator answers on operands of a type
-abbrev pub operation : Op → ValueType → ℤ → ℤ → Answer
-operation o ty a b = stopping (exact o (kind_of ty) a b)
+abbrev pub in_kind : Op → IntKind → ℤ → ℤ → Answer
+in_kind o kind a b = stopping (exact o kind a b)
+
+abbrev pub equates : Op → Bool
+equates op.Eq = true
+equates op.Ne = true
+equates _ = false
+
+abbrev pub orders : Op → Bool
+orders op.Lt = true
+orders op.Le = true
+orders op.Gt = true
+orders op.Ge = true
+orders _ = false
+
+-- What an operator answers on operands of a type. Indices and truths are compared alone, and in that no kind differs from another.
+abbrev pub operation : Op → ValueType → Option (ℤ → ℤ → Answer)
+operation o (Int kind) = Some (in_kind o kind)
+operation o (Ix n) = if equates o || orders o then Some (in_kind o U16) else None
+operation o Truth = if equates o then Some (in_kind o U16) else None
+operation o _ = None
+
+-- what a prefix operator answers: it leaves a second operand aside
+abbrev pub prefix_operation : Op → ValueType → Option (ℤ → Answer)
+prefix_operation o (Int kind) = Some (λ a. in_kind o kind a a)
+prefix_operation o _ = None
 
 -- ---- conversions
 
 -- `T(e)`
-abbrev pub cast_to : ValueType → ℤ → Answer
-cast_to ty v = if in_range (kind_of ty) v then Ok v else Err Cast
-
--- the length of an index type
-abbrev pub length_of : ValueType → ℕ
-length_of (Ix n) = n
-length_of _ = 0
+abbrev pub cast_to : ValueType → Option (ℤ → Answer)
+cast_to (Int kind) = Some (λ v. if in_range kind v then Ok v else Err Cast)
+cast_to _ = None
 
 -- `toix(N, e)`
-abbrev pub index_to : ValueType → ℤ → Answer
-index_to ty v = if is_index (length_of ty) v then Ok v else Err Index
+abbrev pub index_to : ValueType → Option (ℤ → Answer)
+index_to (Ix n) = Some (λ v. if is_index n v then Ok v else Err Index)
+index_to _ = None
 
 -- `wrapix(N, e)`
-abbrev pub wrapped_to : ValueType → ℤ → Answer
-wrapped_to ty v = Ok (pos (wrapped (length_of ty) v))
+abbrev pub wrapped_to : ValueType → Option (ℤ → Answer)
+wrapped_to (Ix n) = Some (λ v. Ok (pos (wrapped n v)))
+wrapped_to _ = None
 
 -- ---- bit data
 
-abbrev pub no_layout : BitLayout
-no_layout = record { name = []; word = U8; fields = [] }
-
 -- the layout of a type of bit data
-abbrev pub layout_of : ModuleCore → ValueType → BitLayout
-layout_of core (Bits k) = get_or core.layouts k no_layout
-layout_of core _ = no_layout
+abbrev pub layout_of : ModuleCore → ValueType → Option BitLayout
+layout_of core (Bits k) = slice_get core.layouts k
+layout_of core _ = None
 
 abbrev pub changing : Result ℤ TooWide → Answer
 changing (Ok v) = Ok v
 changing (Err too_wide) = Err Cast
 
 -- `set(b, f, x)`
-abbrev pub field_set : ModuleCore → ValueType → ℕ → (word x : ℤ) → Answer
-field_set core ty field word x = changing (changed (layout_of core ty) field word x)
+abbrev pub field_set : ModuleCore → ValueType → ℕ → Option ((word x : ℤ) → Answer)
+field_set core ty field = option_map (λ layout word x. changing (changed layout field word x)) (layout_of core ty)

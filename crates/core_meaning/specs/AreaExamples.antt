@@ -138,13 +138,18 @@ byte_init v = One (constant u8 v)
 abbrev pub mixed_value : ℕ → Held → Held → Held
 mixed_value a x y = Parts (Cons (Cell (pos a)) (Cons (Parts (Cons x (Cons y Nil))) Nil))
 
+-- `{1, {{2}, {3, 4}}}`
+abbrev pub nested_init : InitCore
+nested_init = braces (byte_init 1 ∷ braces (braces (byte_init 2 ∷ []) ∷ braces (byte_init 3 ∷ byte_init 4 ∷ []) ∷ []) ∷ [])
+
 pub record InitializerExamples : Type 0 where
-  -- `= {1, {{2}, {3, 4}}}`
-  pub all : (w : World) (s : State) → first_value empty (Some (braces (byte_init 1 ∷ braces (braces (byte_init 2 ∷ []) ∷ braces (byte_init 3 ∷ byte_init 4 ∷ []) ∷ []) ∷ []))) mixed 0 w s
-      ≡ Finished (mixed_value 1 (pair 2 0) (pair 3 4)) w s 0
+  pub all : (w : World) (s : State) → first_value empty (Some nested_init) mixed 0 w s ≡ Finished (mixed_value 1 (pair 2 0) (pair 3 4)) w s 0
   -- `= {1}`, and none
   pub fewer : (w : World) (s : State) → first_value empty (Some (braces (byte_init 1 ∷ []))) mixed 0 w s ≡ Finished (mixed_value 1 (pair 0 0) (pair 0 0)) w s 0
   pub none : (w : World) (s : State) → first_value empty None mixed 0 w s ≡ Finished (mixed_value 0 (pair 0 0) (pair 0 0)) w s 0
+  -- no valid module has one value for a row, or values in braces for a byte
+  pub one_for_row : (w : World) → first_value empty (Some (byte_init 1)) row 0 w (resting []) ≡ Halted (NoMeaning Dead) w []
+  pub braces_for_byte : (w : World) → first_value empty (Some (braces (byte_init 1 ∷ []))) (Leaf u8) 0 w (resting []) ≡ Halted (NoMeaning Dead) w []
 
 pub record EndExamples : Type 0 where
   -- an area whose block has ended is still read until its procedure ends

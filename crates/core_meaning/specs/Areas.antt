@@ -1,6 +1,6 @@
 -- Areas of memory, after "Guilt Free Ivory" (Haskell Symposium 2015): what each holds, its parts, and how it changes.
 use Rattle.std.specs.Prelude.{ℕ, zero, suc, ℤ, pos, Bool, List, [], ◌∷◌, drop, get_or, slice_get, Option, Some, None}
-use Rattle.std.specs.Option.{option_map_or, option_and_then}
+use Rattle.std.specs.Option.{option_map, option_and_then}
 use Rattle.type_trees.specs.Trees.{Leaf, Many, Struct, End, Field, count, part}
 use Rattle.type_trees.specs.Values as tree
 use Rattle.type_trees.specs.Values.{Cell, Parts, Nil, Cons, cells, at, put}
@@ -48,12 +48,12 @@ number_in (Cell v) = Some v
 number_in (Parts vs) = None
 
 -- the number in a cell
-abbrev pub cell_at : Areas → ℕ → List ℕ → Option ℤ
-cell_at areas k path = option_and_then number_in (held_at areas k path)
+abbrev pub number_at : Areas → ℕ → List ℕ → Option ℤ
+number_at areas k path = option_and_then number_in (held_at areas k path)
 
 -- the numbers in the cells of a part, in order
-abbrev pub cells_at : Areas → ℕ → List ℕ → List ℤ
-cells_at areas k path = option_map_or cells (held_at areas k path) []
+abbrev pub cells_at : Areas → ℕ → List ℕ → Option (List ℤ)
+cells_at areas k path = option_map cells (held_at areas k path)
 
 -- ---- how it changes
 

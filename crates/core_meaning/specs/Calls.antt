@@ -1,10 +1,11 @@
--- Calls: the arguments from left to right, the call's step, and then what is called: an import, or an earlier procedure.
+-- Calls: the arguments from left to right, the call's step, and then what is called: an import, or an earlier procedure. That there is
+-- such an import is seen before the step.
 use Rattle.std.specs.Prelude.{ℕ, List, slice_get, Option, if◌then◌else◌}
 use Rattle.step_semantics.specs.Steps.{Part, bind, tick}
 use Rattle.core_tree.specs.Syntax.{ModuleCore, CallCore}
 use Rattle.core_meaning.specs.Values.{Value}
 use Rattle.core_meaning.specs.State.{State}
-use Rattle.core_meaning.specs.Checks.{lost, on_some}
+use Rattle.core_meaning.specs.Checks.{formless, on_some}
 use Rattle.core_meaning.specs.Expressions.{eval_all}
 use Rattle.core_meaning.specs.Imports.{outside}
 
@@ -13,10 +14,11 @@ abbrev pub Calls : Type 0
 Calls = ℕ → List Value → Part State (Option Value)
 
 abbrev pub no_procedures : ModuleCore → Calls
-no_procedures core number args = lost core
+no_procedures core number args = formless core
 
+-- with the values of the arguments
 abbrev pub called : ModuleCore → Calls → CallCore → List Value → Part State (Option Value)
-called core calls c args = if c.import then on_some core (slice_get core.imports c.callee) (λ i. outside core i args) else calls c.callee args
+called core calls c args = if c.import then on_some core (slice_get core.imports c.callee) (λ i. outside core i args) else tick (calls c.callee args)
 
 abbrev pub call : ModuleCore → Calls → CallCore → Part State (Option Value)
-call core calls c = bind (eval_all core c.args) (λ args. tick (called core calls c args))
+call core calls c = bind (eval_all core c.args) (called core calls c)

@@ -1,5 +1,6 @@
--- How parts of a body go on: past checks, and with the values that a form needs.
+-- How parts of a body go on: past checks, and with the values that a form needs. In a valid module it has them.
 use Rattle.std.specs.Prelude.{ℕ, ℤ, pos, Bool, true, not, if◌then◌else◌, List, [], ◌∷◌, map, Option, Some, None, Result, Ok, Err}
+use Rattle.std.specs.List.{list_any}
 use Rattle.std.specs.Ordering.{int_eq}
 use denote.Enum.Bare.{sameb}
 use Rattle.iv_script.specs.declared.Reason.TheVariants.{Dead}
@@ -11,9 +12,14 @@ use Rattle.core_tree.specs.Syntax.{ModuleCore, Label}
 use Rattle.core_meaning.specs.Values.{Value, Num, Ref}
 use Rattle.core_meaning.specs.State.{State, seen}
 
--- The run has no meaning: a name is read whose reference is lost, or a form has operands that no valid module gives it.
+-- The run has no meaning: a name is read whose reference is lost.
 abbrev pub lost : {A : Type 0} → ModuleCore → Part State A
 lost core = halt (seen core) (NoMeaning Dead)
+
+-- And none where a form stands that no valid module has. What a form depends on is looked at before its step; whether a call has the
+-- result that is wanted, behind it.
+abbrev pub formless : {A : Type 0} → ModuleCore → Part State A
+formless core = halt (seen core) (NoMeaning Dead)
 
 -- ---- checks
 
@@ -36,29 +42,34 @@ holds (Err failed) kind = not (same_kind failed kind)
 abbrev pub tests_of : Answer → List Check → List (ℕ × Bool)
 tests_of answer checks = map (λ c. (c.site, holds answer c.kind)) checks
 
--- no check of a valid module is missing: a form without one answers a number
+-- whether the form has a check for what fails: in a valid module none is missing
+abbrev pub covered : Answer → List Check → Bool
+covered (Ok v) checks = true
+covered (Err failed) checks = list_any (λ c. same_kind failed c.kind) checks
+
+-- past its checks a form has a number
 abbrev pub answered : ModuleCore → Answer → Part State Value
 answered core (Ok v) = give (Num v)
-answered core (Err failed) = lost core
+answered core (Err failed) = formless core
 
 -- every form that answers a number: its step, its checks, and then the number
-abbrev pub checked : ModuleCore → Label → Answer → Part State Value
-checked core l answer = tick (passes core (tests_of answer l.checks) (answered core answer))
+abbrev pub answering : ModuleCore → Label → Answer → Part State Value
+answering core l answer = if covered answer l.checks then tick (passes core (tests_of answer l.checks) (answered core answer)) else formless core
 
 -- ---- what a form needs
 
 abbrev pub on_number : {A : Type 0} → ModuleCore → Value → (ℤ → Part State A) → Part State A
 on_number core (Num v) next = next v
-on_number core (Ref area path) next = lost core
+on_number core (Ref area path) next = formless core
 
 abbrev pub on_truth : {A : Type 0} → ModuleCore → Value → (Bool → Part State A) → Part State A
 on_truth core (Num v) next = next (not (int_eq v (pos 0)))
-on_truth core (Ref area path) next = lost core
+on_truth core (Ref area path) next = formless core
 
 abbrev pub on_reference : {A : Type 0} → ModuleCore → Value → (ℕ → List ℕ → Part State A) → Part State A
-on_reference core (Num v) next = lost core
+on_reference core (Num v) next = formless core
 on_reference core (Ref area path) next = next area path
 
 abbrev pub on_some : {A B : Type 0} → ModuleCore → Option A → (A → Part State B) → Part State B
-on_some core None next = lost core
+on_some core None next = formless core
 on_some core (Some a) next = next a

@@ -140,7 +140,8 @@ abbrev pub driver : ModuleCore
 driver = record {
   structs = types;
   layouts = ctrl_layout ∷ [];
-  areas = stored_area (codes "ctrl") (Bits 0) (pos 0 ∷ []) ∷ record { name = codes "uart"; constant = false; area = Struct 0; first = ten_zeros } ∷ stored_area (codes "ticks") u16 (pos 0 ∷ []) ∷ [];
+  areas = stored_area (codes "ctrl") (Bits 0) (pos 0 ∷ []) ∷ record { name = codes "uart"; constant = false; area = Struct 0; first = ten_zeros }
+      ∷ stored_area (codes "ticks") u16 (pos 0 ∷ []) ∷ [];
   imports = record { name = codes "led"; params = Truth ∷ []; result = None } ∷ record { name = codes "send"; params = u8 ∷ []; result = None } ∷ [];
   procs = push ∷ pop ∷ setup ∷ blink ∷ tick ∷ drain ∷ [];
 }

@@ -1,11 +1,12 @@
 -- Each form of expression: what it gives, with how many steps and no fewer, and where its check fails.
 use Rattle.std.specs.Prelude.{◌≡◌, ℕ, suc, ℤ, pos, neg_ℤ, false, List, [], ◌∷◌, Some, None}
 use Rattle.iv_words.specs.declared.IntKind.TheVariants.{U8, I8}
-use Rattle.step_semantics.specs.Steps.{World, FailedCheck, Finished, Halted, Exhausted}
+use Rattle.iv_script.specs.declared.Reason.TheVariants.{Dead}
+use Rattle.step_semantics.specs.Steps.{World, FailedCheck, NoMeaning, Finished, Halted, Exhausted}
 use Rattle.type_trees.specs.Trees.{Leaf, Many, Struct, End, Field as Member}
-use Rattle.ivory_tree.specs.declared.BinOp.TheVariants.{OrElse, AndAlso, Lt}
+use Rattle.ivory_tree.specs.declared.BinOp.TheVariants.{OrElse, AndAlso, Eq, Lt, Add}
 use Rattle.ivory_tree.specs.declared.PrefixOp.TheVariants.{Neg, Not, Flip}
-use Rattle.area_types.specs.Syntax.{ValueType, Truth, Int, Ix, Bits, Ref, Area, Stored, Array}
+use Rattle.area_types.specs.Syntax.{ValueType, Truth, Int, Ix, Bits, Ref, Stored, Array}
 use Rattle.area_types.specs.Syntax as syntax
 use Rattle.area_types.specs.Trees.{Written}
 use Rattle.area_types.specs.declared.region.Region.TheVariants.{Global}
@@ -45,6 +46,10 @@ pub record Is (e : ExprCore) (v : Value) : Type 0 where
 pub record Comes (e : ExprCore) (steps : ℕ) (v : Value) : Type 0 where
   pub waits : (w : World) → eval core None e steps w here ≡ Exhausted w
   pub ends : (w : World) → eval core None e (suc steps) w here ≡ Finished v w here 0
+
+-- no valid module has it: it has no meaning, already without a step
+pub record Formless (e : ExprCore) : Type 0 where
+  pub ends : (w : World) → eval core None e 0 w here ≡ Halted (NoMeaning Dead) w []
 
 -- its check fails after as many
 pub record Stops (e : ExprCore) (steps : ℕ) (at : ℕ) : Type 0 where
@@ -141,3 +146,20 @@ pub record PrefixExamples : Type 0 where
   -- one arm of `?:` is evaluated
   pub first : Comes (Cond (plain u8) slow (constant u8 1) (read u8 byte)) 1 (Num (pos 1))
   pub second : Comes (Cond (plain u8) no_ (constant u8 2) (read u8 byte)) 2 (Num (pos 1))
+
+pub record FormExamples : Type 0 where
+  -- the check that it would stop at is missing, or is of another kind
+  pub unchecked : Formless (Cast (plain (Int I8)) (local u8 1))
+  pub otherwise_checked : Formless (Cast (with_checks (Int I8) (site 5 Index ∷ [])) (local u8 1))
+  pub not_needed : Comes (Cast (plain (Int I8)) (constant u8 127)) 0 (Num (pos 127))
+  -- a type is not the form's
+  pub cast_to_index : Formless (Cast (plain (Ix 4)) (constant u8 1))
+  pub number_for_index : Formless (ToIndex (plain u8) (constant u8 1))
+  pub number_wrapped : Formless (WrapIndex (plain u8) (constant u8 1))
+  pub field_of_number : Formless (Field (plain u8) (constant u8 11) 0)
+  pub number_set : Formless (SetField (plain u8) (constant u8 11) 0 (constant u8 1))
+  -- indices are compared, and truths are so for equality alone
+  pub sum_of_indices : Formless (with_op (Ix 4) [] Add (constant (Ix 4) 1) (constant (Ix 4) 1))
+  pub order_of_indices : Comes (with_op Truth [] Lt (constant (Ix 4) 1) (constant (Ix 4) 2)) 0 (Num (pos 1))
+  pub order_of_truths : Formless (with_op Truth [] Lt no_ yes_)
+  pub equal_truths : Comes (with_op Truth [] Eq no_ no_) 0 (Num (pos 1))

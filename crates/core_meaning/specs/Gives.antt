@@ -1,6 +1,7 @@
 -- What an expression gives in a state, apart from its steps: each form by what its operands give. An expression changes nothing, so its value
 -- is that of the state in which it is evaluated.
 use Rattle.std.specs.Prelude.{◌≡◌, ℕ, ℤ, pos, unsigned_abs, Bool, true, false, not, List, [], ◌∷◌, ◌++◌, Option, Some, None, Ok, is_some, IsTrue}
+use Rattle.std.specs.Option.{option_map}
 use Rattle.std.specs.Ordering.{int_eq}
 use Rattle.step_semantics.specs.Steps.{World, Progress, Finished, Halted, Exhausted}
 use Rattle.int_ops.specs.Operators.{truth}
@@ -10,16 +11,18 @@ use Rattle.ivory_tree.specs.declared.BinOp.TheVariants.{OrElse, AndAlso}
 use Rattle.ivory_tree.specs.declared.PrefixOp.{PrefixOp}
 use Rattle.ivory_tree.specs.declared.PrefixOp.TheVariants.{Neg, Not, Flip, Deref}
 use Rattle.bit_data.specs.Fields.{field_of}
+use Rattle.type_trees.specs.Trees.{Leaf}
 use Rattle.type_trees.specs.Values as tree
 use Rattle.type_trees.specs.Values.{Cell, Parts, Nil, Cons}
 use Rattle.area_types.specs.Syntax.{ValueType}
 use Rattle.area_types.specs.Trees.{Written}
-use Rattle.core_tree.specs.Syntax.{ModuleCore, ExprCore, Number, Outcome, Local, AreaName, Cast, ToIndex, WrapIndex, MakeBits, Raw, SetField, Prefix, Binary, Field, Element, Cond, Whole, type_of, ContractCore, InitCore, One, Many as Braces, InitsCore, NoInits, MoreInits}
+use Rattle.core_tree.specs.Syntax.{ModuleCore, ContractCore, InitCore, One, Many as Braces, InitsCore, NoInits, MoreInits, ExprCore, type_of}
+use Rattle.core_tree.specs.Syntax.{Number, Outcome, Local, AreaName, Cast, ToIndex, WrapIndex, MakeBits, Raw, SetField, Prefix, Binary, Field, Element, Cond, Whole}
 use Rattle.core_meaning.specs.Values.{Value, Num, Ref}
-use Rattle.core_meaning.specs.Areas.{Held, Areas, type_at, cell_at, filled}
+use Rattle.core_meaning.specs.Areas.{Held, Areas, type_at, number_at, filled}
 use Rattle.core_meaning.specs.State.{State, value_of, seen}
 use Rattle.core_meaning.specs.Checks.{Answer}
-use Rattle.core_meaning.specs.Answers.{operator_of, operation, cast_to, index_to, wrapped_to, layout_of, field_set}
+use Rattle.core_meaning.specs.Answers.{operator_of, operation, prefix_operation, cast_to, index_to, wrapped_to, layout_of, field_set}
 use Rattle.core_meaning.specs.Initializers.{part_types, zeros}
 
 -- the values that an operand may give
@@ -37,14 +40,18 @@ pub record NameGives (s : State) (named : Option Value) (x : Value) : Type 0 whe
   pub has : named ≡ Some x
   pub leads : Leads s.areas x
 
-pub record OfNumber (answer : ℤ → Answer) (given : Given) (x : Value) : Type 0 where
+pub record OfNumber (form : Option (ℤ → Answer)) (given : Given) (x : Value) : Type 0 where
+  pub answer : ℤ → Answer
+  pub has : form ≡ Some answer
   pub operand : ℤ
   pub is_given : given (Num operand)
   pub number : ℤ
   pub answers : answer operand ≡ Ok number
   pub is : x ≡ Num number
 
-pub record OfNumbers (answer : ℤ → ℤ → Answer) (left right : Given) (x : Value) : Type 0 where
+pub record OfNumbers (form : Option (ℤ → ℤ → Answer)) (left right : Given) (x : Value) : Type 0 where
+  pub answer : ℤ → ℤ → Answer
+  pub has : form ≡ Some answer
   pub first : ℤ
   pub first_given : left (Num first)
   pub second : ℤ
@@ -67,7 +74,7 @@ pub record CellGives (areas : Areas) (given : Given) (x : Value) : Type 0 where
   pub path : List ℕ
   pub is_given : given (Ref area path)
   pub number : ℤ
-  pub holds : cell_at areas area path ≡ Some number
+  pub holds : number_at areas area path ≡ Some number
   pub is : x ≡ Num number
 
 abbrev pub Chosen : Bool → Type 0 → Type 0 → Type 0
@@ -79,14 +86,14 @@ pub record Choice (test first second : Given) (x : Value) : Type 0 where
   pub is_given : test (Num operand)
   pub chosen : Chosen (is_true operand) (first x) (second x)
 
-abbrev pub field_value : ModuleCore → ValueType → ℕ → Value → Value
-field_value core ty field (Num word) = Num (field_of (layout_of core ty) field word)
-field_value core ty field (Ref k path) = Ref k (path ++ field ∷ [])
+abbrev pub field_value : ModuleCore → ValueType → ℕ → Value → Option Value
+field_value core ty field (Num word) = option_map (λ layout. Num (field_of layout field word)) (layout_of core ty)
+field_value core ty field (Ref k path) = Some (Ref k (path ++ field ∷ []))
 
 pub record FieldGives (core : ModuleCore) (ty : ValueType) (field : ℕ) (given : Given) (x : Value) : Type 0 where
   pub operand : Value
   pub is_given : given operand
-  pub is : x ≡ field_value core ty field operand
+  pub is : field_value core ty field operand ≡ Some x
 
 pub record ElementGives (array index : Given) (x : Value) : Type 0 where
   pub area : ℕ
@@ -97,9 +104,9 @@ pub record ElementGives (array index : Given) (x : Value) : Type 0 where
   pub is : x ≡ Ref area (path ++ unsigned_abs element ∷ [])
 
 abbrev pub PrefixGives : Areas → PrefixOp → ValueType → Given → Value → Type 0
-PrefixGives areas Neg ty given x = OfNumber (λ a. operation op.Neg ty a a) given x
+PrefixGives areas Neg ty given x = OfNumber (prefix_operation op.Neg ty) given x
 PrefixGives areas Not ty given x = Negated given x
-PrefixGives areas Flip ty given x = OfNumber (λ a. operation op.Not ty a a) given x
+PrefixGives areas Flip ty given x = OfNumber (prefix_operation op.Not ty) given x
 PrefixGives areas Deref ty given x = CellGives areas given x
 
 abbrev pub BinaryGives : BinOp → ValueType → (left right : Given) → Value → Type 0
@@ -117,8 +124,8 @@ module _ (core : ModuleCore) (outcome : Option Value) (s : State) where
   Gives (Cast l e) x = OfNumber (cast_to l.ty) (Gives e) x
   Gives (ToIndex l e) x = OfNumber (index_to l.ty) (Gives e) x
   Gives (WrapIndex l e) x = OfNumber (wrapped_to l.ty) (Gives e) x
-  Gives (MakeBits l e) x = OfNumber Ok (Gives e) x
-  Gives (Raw l e) x = OfNumber Ok (Gives e) x
+  Gives (MakeBits l e) x = OfNumber (Some Ok) (Gives e) x
+  Gives (Raw l e) x = OfNumber (Some Ok) (Gives e) x
   Gives (SetField l e field value) x = OfNumbers (field_set core (type_of e) field) (Gives e) (Gives value) x
   Gives (Prefix l o e) x = PrefixGives s.areas o (type_of e) (Gives e) x
   Gives (Binary l o left right) x = BinaryGives o (type_of left) (Gives left) (Gives right) x
@@ -152,7 +159,9 @@ pub record CellIs (given : Given) (held : Held) : Type 0 where
 module _ (core : ModuleCore) (s : State) where
   abbrev mutual
     pub InitGives : InitCore → Written → Held → Type 0
-    InitGives (One e) ty held = CellIs (Gives core None s e) held
+    InitGives (One e) (Leaf t) held = CellIs (Gives core None s e) held
+    InitGives (One e) ty held = ⊥
+    InitGives (Braces is) (Leaf t) held = ⊥
     InitGives (Braces is) ty held = (vs : tree.Values ℤ) × InitsGive is (part_types ty) vs × (held ≡ Parts vs)
 
     pub InitsGive : InitsCore → List Written → tree.Values ℤ → Type 0

@@ -2,13 +2,14 @@
 use Rattle.std.specs.Prelude.{◌≡◌, ℕ, ℤ, pos, true, false, List, [], ◌∷◌, replicate, Some, None, codes}
 use Rattle.iv_words.specs.declared.IntKind.TheVariants.{U8, U16}
 use Rattle.iv_script.specs.declared.End.{End}
-use Rattle.iv_script.specs.declared.End.TheVariants.{Ended, NoReply, BadReply}
+use Rattle.iv_script.specs.declared.End.TheVariants.{Ended, NoReply, BadReply, Undefined}
 use Rattle.iv_script.specs.declared.Event.{Event}
 use Rattle.iv_script.specs.declared.Event.TheVariants as event
 use Rattle.iv_script.specs.declared.Outcome.{Outcome}
 use Rattle.iv_script.specs.declared.Piece.TheVariants as piece
 use Rattle.iv_script.specs.declared.Plain.TheVariants as plain
-use Rattle.area_types.specs.Syntax.{ValueType, Truth, Int, Ref, Area, Stored, Array}
+use Rattle.iv_script.specs.declared.Reason.TheVariants.{Dead}
+use Rattle.area_types.specs.Syntax.{ValueType, Truth, Int, Ix, Ref, Area, Stored, Array}
 use Rattle.area_types.specs.declared.region.Region.TheVariants.{Param}
 use Rattle.core_tree.specs.Syntax.{ModuleCore, CallCore, ExprCore, LetCall, Store, Call, Forever, Return}
 use Rattle.core_meaning.specs.Run.{run_src}
@@ -95,3 +96,21 @@ pub record CellExamples : Type 0 where
       ≡ shown (swap_event ∷ gave (codes "f") (pos 300) ∷ []) Ended (cells_of (codes "d") (pos 8 ∷ pos 9 ∷ []) ∷ cells_of (codes "e") (pos 5 ∷ []) ∷ [])
   pub short : f_with swapping ((pos 300 ∷ pos 8 ∷ pos 9 ∷ []) ∷ []) 10_000
       ≡ shown (swap_event ∷ []) BadReply (cells_of (codes "d") (pos 1 ∷ pos 2 ∷ []) ∷ cells_of (codes "e") (pos 3 ∷ []) ∷ [])
+
+-- ---- what no valid module has: a call of an import that is not there, and `import fill(p : ref r [2] ix(4));`, which would write indices
+
+abbrev pub without_import : ModuleCore
+without_import = module_of [] [] (procedure (codes "f") [] None [] (Call (importing []) ∷ []) ∷ [])
+
+abbrev pub index_row : Area
+index_row = Array 2 (Stored (Ix 4))
+
+abbrev pub filling_indices : ModuleCore
+filling_indices = module_of (record { name = codes "d"; constant = false; area = index_row; first = pos 1 ∷ pos 2 ∷ [] } ∷ [])
+    (record { name = codes "fill"; params = Ref false (Param 0) index_row ∷ []; result = None } ∷ [])
+    (procedure (codes "f") [] None [] (Call (importing (area index_row 0 ∷ [])) ∷ []) ∷ [])
+
+pub record FormlessCalls : Type 0 where
+  -- it has no meaning before the call's step: the entry call takes the one that there is
+  pub no_import : f_with without_import [] 1 ≡ shown [] (Undefined Dead) []
+  pub of_indices : f_with filling_indices [] 1 ≡ shown [] (Undefined Dead) []

@@ -8,7 +8,7 @@ use Rattle.step_semantics.specs.Steps.{Part, give, bind}
 use Rattle.core_tree.specs.Syntax.{ModuleCore, InitCore, One, Many as Braces, InitsCore, NoInits, MoreInits}
 use Rattle.core_meaning.specs.Areas.{Held, filled}
 use Rattle.core_meaning.specs.State.{State}
-use Rattle.core_meaning.specs.Checks.{lost, on_number}
+use Rattle.core_meaning.specs.Checks.{formless, on_number}
 use Rattle.core_meaning.specs.Expressions.{eval}
 
 abbrev pub field_types : WrittenRow → List Written
@@ -27,12 +27,14 @@ zeros (a ∷ types) = Cons (filled a []) (zeros types)
 
 abbrev mutual
   pub init_value : ModuleCore → InitCore → Written → Part State Held
-  init_value core (One e) ty = bind (eval core None e) (λ x. on_number core x (λ v. give (Cell v)))
+  init_value core (One e) (Leaf t) = bind (eval core None e) (λ x. on_number core x (λ v. give (Cell v)))
+  init_value core (One e) ty = formless core
+  init_value core (Braces is) (Leaf t) = formless core
   init_value core (Braces is) ty = bind (init_values core is (part_types ty)) (λ vs. give (Parts vs))
 
   pub init_values : ModuleCore → InitsCore → List Written → Part State (tree.Values ℤ)
   init_values core NoInits types = give (zeros types)
-  init_values core (MoreInits i is) [] = lost core
+  init_values core (MoreInits i is) [] = formless core
   init_values core (MoreInits i is) (ty ∷ types) = bind (init_value core i ty) (λ v. bind (init_values core is types) (λ vs. give (Cons v vs)))
 
 abbrev pub first_value : ModuleCore → Option InitCore → Written → Part State Held

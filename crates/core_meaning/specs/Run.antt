@@ -11,7 +11,7 @@ use Rattle.area_types.specs.Syntax.{Name}
 use Rattle.core_tree.specs.Syntax.{ModuleCore, ProcCore}
 use Rattle.core_meaning.specs.Values.{Value, Num, Ref}
 use Rattle.core_meaning.specs.State.{State, seen, enter, back, first_state}
-use Rattle.core_meaning.specs.Checks.{lost}
+use Rattle.core_meaning.specs.Checks.{formless}
 use Rattle.core_meaning.specs.Conditions.{required, Ensured, ensured}
 use Rattle.core_meaning.specs.Calls.{Calls, no_procedures}
 use Rattle.core_meaning.specs.Statements.{Flow, exec_all}
@@ -22,7 +22,7 @@ use Rattle.core_meaning.specs.Statements.{Flow, exec_all}
 abbrev pub result_of : ModuleCore → Ensured → Flow → Part State (Option Value)
 result_of core ensured Falls = bind (ensured None) (λ t. give None)
 result_of core ensured (Returned result) = give result
-result_of core ensured Broke = lost core
+result_of core ensured Broke = formless core
 
 -- what it requires, in order, and then its body
 abbrev pub body_of : ModuleCore → Calls → ProcCore → Part State (Option Value)
@@ -41,11 +41,11 @@ with_procedure core earlier number p callee args = if number == callee then proc
 abbrev pub entry_result : ModuleCore → Option Value → Part State (Option ℤ)
 entry_result core None = give None
 entry_result core (Some (Num v)) = give (Some v)
-entry_result core (Some (Ref area path)) = lost core
+entry_result core (Some (Ref area path)) = formless core
 
 -- the exported procedure of this name, among those from this number on; it may call those before it
 abbrev pub entry_among : ModuleCore → Calls → (number : ℕ) → List ProcCore → Name → List ℤ → Part State (Option ℤ)
-entry_among core earlier number [] name values = lost core
+entry_among core earlier number [] name values = formless core
 entry_among core earlier number (p ∷ procs) name values =
     if p.exported && same_word p.name name then bind (procedure_call core earlier p (map Num values)) (entry_result core)
     else entry_among core (with_procedure core earlier number p) (suc number) procs name values

@@ -11,8 +11,8 @@ use Rattle.core_tree.specs.Syntax.{ModuleCore, AreaCore}
 use Rattle.core_meaning.specs.Values.{Value, Ref}
 use Rattle.core_meaning.specs.Areas.{Held, Areas, AreaState, Live, in_map, filled, mark_from, take_from, put_at}
 
--- The names in scope in a call, by number, with their values, the latest first. Its local areas are those in the map from the number
--- `first` on, up to the `first` of the call that it waits for: numbers are taken in order, and the areas of calls that have ended are gone.
+-- The names in scope in a call, by number, with their values, the latest first. Its local areas are those in the map from `first` on, up to
+-- the `first` of the call that it is making, if there is one: numbers are taken in order, and the areas of calls that have ended are gone.
 pub record Frame : Type 0 where
   pub names : List (ℕ × Value)
   pub first : ℕ
@@ -66,7 +66,8 @@ back s = record { areas = take_from s.frames.own.first s.areas; frames = pop_fra
 abbrev pub first_area : ModuleCore → AreaCore → AreaState
 first_area core a = Live (record { ty = written_out core.structs a.area; constant = a.constant; held = filled (written_out core.structs a.area) a.first })
 
--- before the first entry call they are all that there is, and so they have the first numbers
+-- Before the first entry call they are all that there is, and so they have the first numbers. The outermost frame is the outside's, without
+-- names and areas.
 abbrev pub first_state : ModuleCore → State
 first_state core = record { areas = map (first_area core) core.areas; frames = record { own = record { names = []; first = length core.areas }; callers = [] } }
 

@@ -9,7 +9,8 @@ use Rattle.ivory_tree.specs.declared.BinOp.TheVariants.{Div, Add, WrapAdd, WrapM
 use Rattle.area_types.specs.Syntax.{Name, ValueType, Truth, Int, Ix, Stored, Ref, Area, Array}
 use Rattle.area_types.specs.declared.region.Region.TheVariants.{Global, Own}
 use Rattle.core_tree.specs.declared.SiteKind.TheVariants.{Overflow, DivZero, Index, Assert as AssertSite, Pre, Post}
-use Rattle.core_tree.specs.Syntax.{ModuleCore, ProcCore, ContractCore, ExprCore, Outcome as Result, Cast, ToIndex, Cond, Element, Whole, One, Many, NoInits, MoreInits, StmtCore, Let, LetCall, Alloc, Store, Copy, Call, If, IfElse, Map, Upto, Downto, Forever, Break, Return, Assert, NoAlloc, NoBreak, NoReturn}
+use Rattle.core_tree.specs.Syntax.{ModuleCore, ProcCore, ContractCore, ExprCore, Outcome as Result, Cast, ToIndex, Cond, Element, Whole, One, Many, NoInits, MoreInits}
+use Rattle.core_tree.specs.Syntax.{StmtCore, Let, LetCall, Alloc, Store, Copy, Call, If, IfElse, Map, Upto, Downto, Forever, Break, Return, Assert, NoAlloc, NoBreak, NoReturn}
 use Rattle.core_meaning.specs.Run.{run_src}
 use Rattle.core_meaning.specs.ExampleForms.{plain, site, with_checks, constant, local, area, read, chain, with_op, stmts, procedure, stored_area, module_of, script, shown, going, cells_of, ret, gave}
 

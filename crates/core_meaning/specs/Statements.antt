@@ -6,7 +6,8 @@ use Rattle.type_trees.specs.Trees.{nodes}
 use Rattle.type_trees.specs.Values.{Cell}
 use Rattle.area_types.specs.Tables.{written_out}
 use Rattle.area_types.specs.Trees.{Written}
-use Rattle.core_tree.specs.Syntax.{ModuleCore, StmtCore, Let, LetCall, Alloc, Store, Copy, Call, If, IfElse, Map, Upto, Downto, Forever, Break, Return, Assert, NoAlloc, NoBreak, NoReturn, StmtsCore, NoStmts, MoreStmts}
+use Rattle.core_tree.specs.Syntax.{ModuleCore, StmtCore, StmtsCore, NoStmts, MoreStmts}
+use Rattle.core_tree.specs.Syntax.{Let, LetCall, Alloc, Store, Copy, Call, If, IfElse, Map, Upto, Downto, Forever, Break, Return, Assert, NoAlloc, NoBreak, NoReturn}
 use Rattle.core_meaning.specs.Values.{Value, Num}
 use Rattle.core_meaning.specs.Areas.{Held, type_at, held_at}
 use Rattle.core_meaning.specs.State.{State, with_name, with_area, holding, leave}
@@ -26,11 +27,13 @@ naming number v = change Falls (with_name number v)
 -- the value comes first, then the reference to the cell
 abbrev pub store : ModuleCore → Value → Value → Part State Flow
 store core target value =
-    on_number core value (λ v. on_reference core target (λ k path. by_state (λ s. on_some core (type_at s.areas k path) (λ ty. tick (change Falls (holding k path (Cell v)))))))
+    on_number core value (λ v. on_reference core target (λ k path. by_state (λ s. on_some core (type_at s.areas k path) (λ ty.
+    tick (change Falls (holding k path (Cell v)))))))
 
 -- a copy takes as many steps as the area has nodes
 abbrev pub copied : ModuleCore → ℕ → List ℕ → Option Written → Option Held → Part State Flow
-copied core k path target source = on_some core target (λ ty. on_some core source (λ held. ticks (nodes ty) (change Falls (holding k path held))))
+copied core k path target source =
+    on_some core target (λ ty. on_some core source (λ held. ticks (nodes ty) (change Falls (holding k path held))))
 
 abbrev pub copy : ModuleCore → Value → Value → Part State Flow
 copy core target source =
@@ -41,19 +44,23 @@ abbrev pub turn : ℕ → Part State Flow → ℕ → Part State Flow
 turn number body i = block leave (also (naming number (Num (pos i))) body)
 
 -- a return tests what is ensured after its step, while its blocks still go on
-abbrev pub returned : Ensured → Option Value → Part State Flow
-returned ensured result = tick (bind (ensured result) (λ t. give (Returned result)))
+abbrev pub returning : Ensured → Option Value → Part State Flow
+returning ensured result = tick (bind (ensured result) (λ t. give (Returned result)))
 
 abbrev mutual
   pub exec : ModuleCore → Calls → Ensured → StmtCore → Part State Flow
+  -- a let takes a step, and a let of a call the call's step alone
   exec core calls ensured (Let number e) = bind (eval core None e) (λ v. tick (naming number v))
   exec core calls ensured (LetCall number c) = bind (call core calls c) (λ result. on_some core result (naming number))
-  exec core calls ensured (Alloc number area init) = bind (first_value core init (written_out core.structs area)) (λ held. tick (change Falls (with_area number (written_out core.structs area) held)))
+  exec core calls ensured (Alloc number area init) =
+      bind (first_value core init (written_out core.structs area)) (λ held. tick (change Falls (with_area number (written_out core.structs area) held)))
   exec core calls ensured (Store target value) = bind (eval core None value) (λ v. bind (eval core None target) (λ r. store core r v))
   exec core calls ensured (Copy target source) = bind (eval core None target) (λ r. bind (eval core None source) (λ from. copy core r from))
   exec core calls ensured (Call c) = bind (call core calls c) (λ result. give Falls)
   exec core calls ensured (If e a) = choice core (eval core None e) (block leave (exec_all core calls ensured a)) (give Falls)
   exec core calls ensured (IfElse e a b) = choice core (eval core None e) (block leave (exec_all core calls ensured a)) (block leave (exec_all core calls ensured b))
+  -- a loop that counts takes its step, and then its first turn and the others: how many come behind the first, what follows a number, and
+  -- the first number; `forever` has its turns' steps alone
   exec core calls ensured (Map number length a) = tick (counted (pred length) suc 0 (turn number (exec_all core calls ensured a)))
   exec core calls ensured (Upto number length e a) =
       bind (eval core None e) (λ x. on_number core x (λ last. tick (counted (unsigned_abs last) suc 0 (turn number (exec_all core calls ensured a)))))
@@ -61,8 +68,8 @@ abbrev mutual
       bind (eval core None e) (λ x. on_number core x (λ first. tick (counted (unsigned_abs first) pred (unsigned_abs first) (turn number (exec_all core calls ensured a)))))
   exec core calls ensured (Forever a) = forever (block leave (exec_all core calls ensured a))
   exec core calls ensured Break = tick (give Broke)
-  exec core calls ensured (Return None) = returned ensured None
-  exec core calls ensured (Return (Some e)) = bind (eval core None e) (λ v. returned ensured (Some v))
+  exec core calls ensured (Return None) = returning ensured None
+  exec core calls ensured (Return (Some e)) = bind (eval core None e) (λ v. returning ensured (Some v))
   exec core calls ensured (Assert e check) = bind (tested core None e check) (λ t. give Falls)
   exec core calls ensured (NoAlloc a) = block leave (exec_all core calls ensured a)
   exec core calls ensured (NoBreak a) = block leave (exec_all core calls ensured a)

@@ -1,8 +1,8 @@
 ghost use Rattle.core_meaning.specs.AreaLaws.{EarlierAreasStay, MarkedAreasStay, OthersStay, PartsHoldWhatIsPut, TakenAreasAreGone, TypesStay};
 ghost use Rattle.core_meaning.specs.AreaExamples.{CopyExamples, EndExamples, InitializerExamples, ReferenceExamples};
 ghost use Rattle.core_meaning.specs.DriverExamples.{DriverExamples};
-ghost use Rattle.core_meaning.specs.ExpressionExamples.{BitExamples, ConversionExamples, NameExamples, PrefixExamples};
-ghost use Rattle.core_meaning.specs.ImportExamples.{CellExamples, ReplyExamples, TickExamples};
+ghost use Rattle.core_meaning.specs.ExpressionExamples.{BitExamples, ConversionExamples, FormExamples, NameExamples, PrefixExamples};
+ghost use Rattle.core_meaning.specs.ImportExamples.{CellExamples, FormlessCalls, ReplyExamples, TickExamples};
 ghost use Rattle.core_meaning.specs.Laws.{ArgumentsChangeNothing, ConditionsChangeNothing, ExpressionsChangeNothing, InitializersChangeNothing, FilledValuesHold, RunsObeyTheirLaws};
 ghost use Rattle.core_meaning.specs.OperatorExamples.{AndExamples, ProductExamples, QuotientExamples, ShiftExamples, SumExamples};
 ghost use Rattle.core_meaning.specs.StatementExamples.{AssertExamples, ChoiceExamples, ContractExamples, LoopExamples, OrderExamples, TurnExamples};
@@ -35,12 +35,13 @@ pub fn area_laws()
     ensures earlier { EarlierAreasStay }
 {}
 
-/// What each form of expression gives, and for which steps.
+/// What each form of expression gives, and for which steps, and which forms have no meaning.
 pub fn expression_examples()
     ensures names { NameExamples }
     ensures bits { BitExamples }
     ensures conversions { ConversionExamples }
     ensures prefixes { PrefixExamples }
+    ensures forms { FormExamples }
 {}
 
 /// What operators give in runs, with which steps, and at which check they stop.
@@ -83,6 +84,7 @@ pub fn import_examples()
     ensures ticks { TickExamples }
     ensures replies { ReplyExamples }
     ensures cells { CellExamples }
+    ensures formless { FormlessCalls }
 {}
 
 /// What a driver does in a script of forty calls.

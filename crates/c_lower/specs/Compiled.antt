@@ -4,7 +4,7 @@ use Rattle.std.specs.Prelude.{◌≡◌, ℕ, List}
 use Rattle.first_form.specs.declared.FirstModule.{FirstModule}
 use Rattle.c_ast.specs.declared.Target.{Target}
 use Rattle.c_ast.specs.Syntax.{TranslationUnit}
-use Rattle.core_meaning.specs.Source.{exports_of}
+use Rattle.first_meaning.specs.Source.{exports_of}
 use Rattle.c_ast.specs.Exports.{c_exports}
 use Rattle.c_text.specs.FirstForms.{FirstForms}
 use Rattle.c_text.specs.ReadsBack.{ReadsBack}

@@ -16,8 +16,8 @@ use Rattle.first_form.specs.declared.FirstImport.{FirstImport}
 use Rattle.first_form.specs.declared.FirstProc.{FirstProc}
 use Rattle.first_form.specs.declared.FirstCall.{FirstCall}
 use Rattle.first_form.specs.Valid.{CallFits}
-use Rattle.core_meaning.specs.Source.{observed, export_for, call_of, exec, execs, entered, enter, proc_of}
-use Rattle.core_meaning.specs.Laws.{RunsObeyTheirLaws, RunsAreDefined}
+use Rattle.first_meaning.specs.Source.{observed, export_for, call_of, exec, execs, entered, enter, proc_of}
+use Rattle.first_meaning.specs.Laws.{RunsObeyTheirLaws, RunsAreDefined}
 
 call_lawful : (i : Option FirstImport) (values : List ℕ) → Lawful (call_of i values)
 call_lawful None values = halt_lawful observed _

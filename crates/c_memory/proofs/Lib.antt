@@ -1,0 +1,12 @@
+pub mod Lists
+pub mod Bytes
+pub mod Laid
+pub mod Accesses
+pub mod Memories
+pub mod Codecs
+pub mod Several
+pub mod Cells
+pub mod Values
+pub mod Initializers
+pub mod KindTables
+pub mod Standing

@@ -1,11 +1,10 @@
 -- The texts of a list, put one after another.
-use Rattle.std.proofs.Common.{◌≡◌, refl, sym, ◌∙◌, ap, subst, ℕ, ◌+◌, ◌*◌, ◌<◌, ◌≤◌, false, Bool, true, List, [], ◌∷◌, ◌++◌, length, take, get_or, append_assoc, arith}
+use Rattle.std.proofs.Common.{◌≡◌, refl, sym, ◌∙◌, ap, subst, ℕ, ◌+◌, ◌*◌, ◌<◌, ◌≤◌, Bool, true, List, [], ◌∷◌, ◌++◌, length, take, get_or, append_assoc, arith}
 use Rattle.std.specs.Prelude.{map, replicate, codes}
 use Rattle.std.proofs.lemmas.List.{take_more, take_all, map-append, append-nil, replicate-append-replicate}
 use Rattle.c_ast.specs.Syntax.{Init, Stmt}
 use Rattle.c_ast.specs.View.{inits_from, stmts_from}
-use Rattle.c_ast.specs.declared.types.CType.{CType}
-use Rattle.c_text.specs.TypeText.{texts, listed, type_text}
+use Rattle.c_text.specs.TypeText.{texts, listed}
 use Rattle.c_text.specs.ExpressionText.{init_text, init_texts}
 use Rattle.c_text.specs.Spelling.{params_text}
 use Rattle.c_writer.specs.Separated.{comma, has_any}

@@ -67,7 +67,7 @@ params_put text xs x rest {s} {e} is puts =
     let whole : codes "(" ++ text x ++ further ++ codes ")" ≡ params_text (map text (x ∷ rest)) = ap (λ t. 40 ∷ (t ++ codes ")")) (sym (listed_is text x rest)) in
     subst (Puts s e) (whole ∙ ap (λ ys. params_text (map text ys)) (sym is)) puts
 
--- an operator between its operands with its blanks
+-- an operator between its operands with its spaces
 pub around : (o a s p t b e : List ℕ) → o ++ a ++ (s ++ p ++ t) ++ b ++ e ≡ o ++ a ++ s ++ p ++ t ++ b ++ e
 around o a s p t b e = simp append_assoc
 

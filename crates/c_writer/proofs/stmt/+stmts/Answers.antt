@@ -1,4 +1,4 @@
-use Rattle.std.proofs.Common.{◌≡◌, ◌++◌, ◌∙◌, ◌∷◌, [], ap, sym, Some, None, append_assoc}
+use Rattle.std.proofs.Common.{◌≡◌, ◌++◌, ◌∙◌, ◌∷◌, [], ap, Some, None, append_assoc}
 use Rattle.std.specs.Prelude.{codes}
 use Rattle.c_ast.specs.declared.stmt.CStmt.TheVariants as stmt
 use Rattle.c_ast.specs.View.{expr_of, stmt_of}

@@ -1,12 +1,11 @@
--- What a declaration says of a function (C99 6.5.2.2, 6.7.5.3), and the types that parameters and results have.
+-- What a declaration says of a function (C99 6.5.2.2, 6.7.5.3), and which types are scalars, or results without pointers.
 use Rattle.std.specs.Prelude.{List, [], ◌∷◌, map, ⊤}
 use Rattle.iv_words.specs.declared.IntKind.TheVariants.{U32}
 use Rattle.c_ast.specs.declared.types.CScalar.TheVariants.{Int}
 use Rattle.c_ast.specs.declared.types.CType.{CType}
 use Rattle.c_ast.specs.declared.types.CType.TheVariants.{Void, Value, Pointer}
 use Rattle.c_ast.specs.declared.unit.CExtern.{CExtern}
-use Rattle.c_ast.specs.Syntax.{Name, Function}
-use Rattle.c_ast.specs.Names.{stop_name}
+use Rattle.c_ast.specs.Syntax.{Function}
 
 abbrev pub IsScalar : CType → Type 0
 IsScalar (Value s) = ⊤

@@ -1,6 +1,6 @@
 -- The static types of expressions and places (C99 6.5), from the declarations of the names in scope alone. Where there is none, a
 -- rule of the text is broken. Operators, `?:` and conditions take numbers alone; of pointers there are names, `*`, `&` and casts.
-use Rattle.std.specs.Prelude.{List, [], ◌∷◌, Bool, true, false, not, ◌&&◌, ◌||◌, Option, Some, None, if◌then◌else◌}
+use Rattle.std.specs.Prelude.{List, Bool, true, false, not, ◌&&◌, ◌||◌, Option, Some, None, if◌then◌else◌}
 use Rattle.std.specs.Option.{option_map, option_and_then}
 use denote.Enum.Bare.{sameb}
 use Rattle.iv_words.specs.contracts.kind.IntKind as kinds

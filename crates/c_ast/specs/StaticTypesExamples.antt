@@ -1,5 +1,5 @@
 -- Small expressions and places, and exactly which types they have, or that they have none: examples that hold the definitions fast.
-use Rattle.std.specs.Prelude.{◌≡◌, ℕ, List, [], ◌∷◌, Bool, true, false, Option, Some, None, codes}
+use Rattle.std.specs.Prelude.{◌≡◌, ℕ, List, [], ◌∷◌, true, false, Option, Some, None, codes}
 use Rattle.std.specs.Option.{option_and_then}
 use Rattle.iv_words.specs.declared.kind.IntKind.{IntKind}
 use Rattle.iv_words.specs.declared.kind.IntKind.TheVariants.{U8, U16, U32, U64, I16}
@@ -7,7 +7,7 @@ use Rattle.c_ast.specs.declared.types.Target.TheVariants.{T32}
 use Rattle.c_ast.specs.declared.types.CScalar.{CScalar}
 use Rattle.c_ast.specs.declared.types.CScalar.TheVariants.{Truth, Int as Exact}
 use Rattle.c_ast.specs.declared.types.Arith.{Arith}
-use Rattle.c_ast.specs.declared.types.Arith.TheVariants.{Int, UInt, LongLong, ULongLong}
+use Rattle.c_ast.specs.declared.types.Arith.TheVariants.{Int, UInt, LongLong}
 use Rattle.c_ast.specs.declared.types.CKind.TheVariants.{Scalar, Arith as Computed}
 use Rattle.c_ast.specs.declared.types.CBase.{CBase}
 use Rattle.c_ast.specs.declared.types.CBase.TheVariants as base
@@ -16,11 +16,11 @@ use Rattle.c_ast.specs.declared.expr.Suffix.TheVariants.{Plain, U, Ll}
 use Rattle.c_ast.specs.declared.expr.CUnary.TheVariants.{Neg, Flip, Not}
 use Rattle.c_ast.specs.declared.expr.CBinary.TheVariants.{Add, Shl, Lt, Eq, AndAlso}
 use Rattle.c_ast.specs.declared.unit.CStruct.{CStruct}
-use Rattle.c_ast.specs.Syntax.{Name, Expr, Number, Read, Address, Unary, Binary, Cast, Cond, Place, Var, At, Member, Element}
+use Rattle.c_ast.specs.Syntax.{Expr, Number, Read, Address, Unary, Binary, Cast, Cond, Place, Var, At, Member, Element}
 use Rattle.type_trees.specs.Trees.{Leaf, Many}
-use Rattle.c_ast.specs.Structs.{CTree, tree}
+use Rattle.c_ast.specs.Structs.{tree}
 use Rattle.c_ast.specs.Targets.{table_of}
-use Rattle.c_ast.specs.StaticTypes.{ValueType, Arithmetic, PointerTo, PlaceType, Held, Stored, Entity, ConstName, ObjectName, Scope, declared, expr_type, place_type, may_be_given, assigned_scalar}
+use Rattle.c_ast.specs.StaticTypes.{ValueType, Arithmetic, PointerTo, PlaceType, Held, Stored, ConstName, ObjectName, Scope, declared, expr_type, place_type, may_be_given, assigned_scalar}
 
 -- ---- writing types, and where the expressions are
 

@@ -1,5 +1,5 @@
 -- The names and types of the lowered unit are right, and so its text reads back.
-use Rattle.std.proofs.Common.{◌≡◌, ◌≢◌, ℕ, zero, suc, ◌+◌, ◌<◌, ◌≤◌, ◌^◌, Bool, true, false, Option, List, [], ◌∷◌, ◌++◌, map, length, Some, None, refl, sym, ◌∙◌, ap, subst, arith, append_assoc}
+use Rattle.std.proofs.Common.{◌≡◌, ◌≢◌, ℕ, zero, suc, ◌+◌, ◌<◌, ◌^◌, Bool, true, false, Option, List, [], ◌∷◌, ◌++◌, map, length, Some, None, refl, sym, ◌∙◌, ap, subst, arith, append_assoc}
 use Rattle.std.specs.Prelude.{slice_get, All, AllPairs, replicate, leb, nat_lt, nat_eq, ◌||◌, not, IsSome, codes, if◌then◌else◌}
 use Rattle.std.specs.Option.{is_some, option_map}
 use Rattle.std.proofs.lemmas.Bool.{le-leb, eq-eqb}
@@ -28,16 +28,15 @@ use Rattle.c_ast.specs.Syntax.{FunctionCall, Call, Function}
 use Rattle.c_text.specs.Spelling.{fixed_text, unit_text}
 use Rattle.c_ast.specs.Names.{named}
 use Rattle.c_ast.specs.Signatures.{Signature, stop_signature, extern_signature, function_signature}
-use Rattle.c_ast.specs.StaticTypes.{ValueType, Arithmetic, may_be_given}
+use Rattle.c_ast.specs.StaticTypes.{Arithmetic, may_be_given}
 use Rattle.c_ast.specs.declared.CKind.TheVariants.{Arith as Computed}
 use Rattle.c_text.specs.StatementText.{indent, stmt_text}
 use Rattle.c_text.specs.Rules.{Rule, NameIsNew, NameIsOfFile, CalledIsEarlier, ArgumentsAreCounted, ResultIsWanted, GivenIsWanted, ConstantHasType, Demand, ask, behind, where_typed}
 use Rattle.c_text.specs.Scopes.{Names, is_taken, is_of_file}
 use Rattle.c_text.specs.ExpressionRules.{args_demands, call_demands}
 use Rattle.c_text.specs.StatementRules.{stmts_demands}
-use Rattle.c_text.specs.UnitRules.{file_scope, inside, file_name, types_demands, functions_demands, externs_demands, unit_demands}
+use Rattle.c_text.specs.UnitRules.{file_scope, inside, file_name, types_demands, functions_demands, externs_demands}
 use Rattle.c_text.specs.Right.{IsKept, Right}
-use Rattle.c_text.proofs.FirstForms.{first_forms_nest}
 use Rattle.c_text.specs.ReadsBack.{ReadsBack}
 use Rattle.c_text.proofs.Shallow.{right_reads_back}
 use Rattle.c_lower.specs.Shape.{extern_for}
@@ -45,7 +44,7 @@ use Rattle.c_lower.specs.Lowered.{constant_for, name_of, body_for, function_for,
 use Rattle.c_lower.proofs.Lists.{some_is, all_same, all_after, pairs_head, pairs_tail, pairs_after}
 use Rattle.c_lower.proofs.Words.{same_self, same_equal, same_not}
 use Rattle.c_lower.proofs.Identifiers.{word_some}
-use Rattle.c_lower.proofs.Spelled.{import_names, proc_names, lowered_is_first, lowered_in_subset}
+use Rattle.c_lower.proofs.Spelled.{import_names, proc_names, lowered_in_subset, lowered_nests}
 
 abbrev Small : ℕ → Type 0
 Small v = v < 2 ^ 8
@@ -250,4 +249,4 @@ module _ (m : FirstModule) (valid : Valid m) where
       }
 
   pub lowered_reads_back : (target : Target) → ReadsBack (lowered m) (unit_text (lowered m)) target
-  lowered_reads_back target = right_reads_back (lowered m) target (lowered_in_subset m valid) (lowered_right target) (omega (arith, first_forms_nest (lowered m) (lowered_is_first m valid)))
+  lowered_reads_back target = right_reads_back (lowered m) target (lowered_in_subset m valid) (lowered_right target) (omega (arith, lowered_nests m))

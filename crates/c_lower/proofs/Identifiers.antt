@@ -6,7 +6,7 @@ use Rattle.iv_words.specs.Words.{same_word}
 use Rattle.ivory_lexer.specs.Table.{is_name, begins_name, is_in_name}
 use Rattle.ivory_lexer.specs.Tokens.{IsName}
 use Rattle.c_ast.specs.Names.{prefixed, outer_name, stop_name}
-use Rattle.c_text.specs.Identifiers.{is_digit, is_identifier_byte, IsIdentifier, IsFileName}
+use Rattle.c_text.specs.Identifiers.{is_digit, is_identifier_byte, IsIdentifier}
 use Rattle.c_lower.proofs.Words.{same_self, not_stop}
 use Rattle.std.proofs.lemmas.Bool.{and_parts}
 
@@ -26,14 +26,6 @@ prefixed_identifier name h = record {
   spelled = word_spelled name h.0;
   short = omega (arith, h.1);
   free = refl;
-}
-
-pub prefixed_file_name : (name : List ℕ) → IsName name → IsFileName (prefixed name)
-prefixed_file_name name h = record {
-  identifier = prefixed_identifier name h;
-  rest = name;
-  some = word_some name h.0;
-  with_prefix = refl;
 }
 
 pub prefixed_differ : (a b : List ℕ) → a ≢ b → prefixed a ≢ prefixed b

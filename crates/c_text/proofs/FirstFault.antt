@@ -1,6 +1,6 @@
 -- A unit is right or has one first fault, and the search finds it.
 use Rattle.std.proofs.Common.{◌≡◌, ◌<◌, ◌⊎◌, inl, inr, refl, sym, ◌∙◌, ap, subst, arith, ℕ, Bool, true, false, List, [], ◌∷◌, Option, Some, None}
-use Rattle.std.specs.Prelude.{nat_lt, if◌then◌else◌, All, IsTrue}
+use Rattle.std.specs.Prelude.{nat_lt, if◌then◌else◌, All}
 use Rattle.std.proofs.lemmas.Bool.Decides.{nat_tests}
 use Rattle.std.proofs.lemmas.List.Elements.{All-nil, All-head, All-tail, All-cons}
 use Rattle.c_ast.specs.declared.types.Target.{Target}
@@ -11,7 +11,7 @@ use Rattle.c_text.specs.declared.fault.CWhy.TheVariants.{Syntax, TooDeep, BadNam
 use Rattle.c_text.specs.Rules.{Rule, NameIsKnown, TagIsKnown, MemberIsKnown, NameIsNew, TagIsNew, MemberIsNew, NameIsOfFile, CalledIsEarlier, OperandsAreScalars, CastIsAllowed, StarHasPointer, DotHasStruct, IndexHasArray, AddressIsOfObject, ReadHasValue, NameIsPlace, AssignedIsScalar, GivenIsWanted, IndexIsScalar, TestIsScalar, ArgumentsAreCounted, ResultIsWanted, ReturnMatches, BreakIsInLoop, InitializersFit, BracesMatch, FileScopeHasNoNames, LengthIsAllowed, MemberEndsInTime, ConstantHasType, Demand, why_of}
 use Rattle.c_text.specs.UnitRules.{unit_demands}
 use Rattle.c_text.specs.Right.{IsKept, Right}
-use Rattle.c_text.specs.FirstFault.{told, Among, here, there, NoLater, IsFirst, HasFirst, is_of_name, earlier, or_earlier, first_fault}
+use Rattle.c_text.specs.FirstFault.{told, Among, here, there, NoLater, IsFirst, HasFirst, is_of_name, or_earlier, first_fault}
 
 all_among : (P : Demand → Type 0) (d : Demand) (ds : List Demand) → All P ds → Among d ds → P d
 all_among P d [] all among = elim among [ ]

@@ -1,4 +1,4 @@
--- Texts without brackets: names, numbers, blanks and words that are written out.
+-- Texts without brackets: names, numbers, spaces and words that are written out.
 use Rattle.std.proofs.Common.{◌≡◌, refl, ◌∙◌, ap, ℕ, zero, suc, ◌+◌, ◌-◌, ◌%◌, ◌^◌, ◌<◌, ◌≤◌, Bool, true, false, List, [], ◌∷◌, ◌++◌, take, arith}
 use Rattle.std.specs.Prelude.{not, ◌||◌, ◌&&◌, if◌then◌else◌, decimal, replicate, IsTrue}
 use Rattle.std.specs.List.{list_all}

@@ -1,6 +1,6 @@
 -- The brackets of a unit's text nest as deep as the unit does.
-use Rattle.std.proofs.Common.{◌≡◌, refl, subst, ℕ, ◌+◌, ◌*◌, ◌<◌, ◌≤◌, ◌^◌, max, Bool, true, false, Option, Some, None, List, [], ◌∷◌, ◌++◌, append_assoc, arith}
-use Rattle.std.specs.Prelude.{codes, map, decimal}
+use Rattle.std.proofs.Common.{◌≡◌, refl, subst, ℕ, ◌+◌, ◌*◌, ◌<◌, ◌≤◌, max, Bool, true, false, Option, Some, None, List, [], ◌∷◌, ◌++◌, append_assoc, arith}
+use Rattle.std.specs.Prelude.{codes, map, take, decimal}
 use Rattle.std.specs.List.{All, list_all}
 use Rattle.std.proofs.Math.Nat.{le-max_left, le-max_right, max-le}
 use Rattle.std.proofs.lemmas.List.Elements.{All-head, All-tail}
@@ -22,17 +22,16 @@ use Rattle.c_ast.specs.declared.expr.CBinary.TheVariants.{Add, Sub, Mul, Div, Re
 use Rattle.c_ast.specs.declared.unit.CMember.{CMember}
 use Rattle.c_ast.specs.declared.unit.CStruct.{CStruct}
 use Rattle.c_ast.specs.declared.unit.CExtern.{CExtern}
-use Rattle.c_ast.specs.declared.unit.CParam.{CParam}
 use Rattle.c_ast.specs.Syntax.{Name, Expr, Number, Read, Address, Unary, Binary, Cast, Cond, Place, Var, At, Member, Element, Init, One, Zero, Many, Inits, NoInits, MoreInits, FunctionCall, Stmt, Const, ConstCall, Object, Assign, If, IfElse, Forever, Break, Return, Block, Call, Stmts, Nil, Cons, FileObject, Function, TranslationUnit}
 use Rattle.c_text.specs.Identifiers.{IsIdentifier}
 use Rattle.c_text.specs.TypeText.{line, listed, texts, kind_text, scalar_text, base_text, star_text, type_text, gap_text, typed_text, const_text, object_text}
 use Rattle.c_text.specs.ExpressionText.{suffix_text, unary_text, binary_text, expr_text, place_text, init_text, init_texts, call_text}
 use Rattle.c_text.specs.StatementText.{indent, first_value_text, return_text, stmt_text, block_text, stmts_text}
-use Rattle.c_text.specs.Spelling.{length_text, member_text, struct_text, params_text, extern_text, base_const_text, file_object_text, storage_text, param_text, function_text, fixed_text, head_text, unit_text}
+use Rattle.c_text.specs.Spelling.{length_text, member_text, struct_text, params_text, extern_text, base_const_text, file_object_text, storage_text, param_text, function_text, fixed_text, unit_text}
 use Rattle.c_text.specs.Subset.{BaseInSubset, ValueInSubset, ResultInSubset, ExternResultInSubset, ExprInSubset, PlaceInSubset, InitInSubset, InitsInSubset, CallInSubset, FirstValueInSubset, ReturnInSubset, StmtInSubset, StmtsInSubset, LengthInSubset, MemberInSubset, StructInSubset, ExternInSubset, ObjectInSubset, ParamInSubset, FunctionInSubset, InSubset}
 use Rattle.c_text.specs.Nested.{deepest, expr_nested, place_nested, init_nested, inits_nested, call_nested, first_value_nested, return_nested, stmt_nested, stmts_nested, length_nested, member_nested, struct_nested, object_nested, function_nested, nested}
 use Rattle.c_text.specs.Right.{Right}
-use Rattle.c_text.specs.ReadsBack.{IsShallow, ReadsBack}
+use Rattle.c_text.specs.ReadsBack.{open_brackets, IsShallow, ReadsBack}
 use Rattle.c_text.proofs.Nesting.{Nests, shallow, deeper, empty, joined, in_parentheses, in_square, in_braces}
 use Rattle.c_text.proofs.Plain.{is_plain, IsPlain, plain_nests, plain_joined, plain_word, plain_decimal, plain_blanks}
 
@@ -254,7 +253,7 @@ block_nests depth braces lines nests =
     subst (Nests (depth + 1)) (block_parts lines (indent braces))
     (in_braces depth ((10 ∷ []) ++ lines ++ indent braces) (then (then (mark depth (10 ∷ []) refl) nests) (blanks braces)))
 
--- a line with a blank front, a middle and a semicolon
+-- a line with spaces in front, a middle and a semicolon
 statement : {depth : ℕ} {text : List ℕ} → Nests depth text → Nests depth (line (text ++ codes ";"))
 statement {depth} {text} nests = lined (then nests (mark depth (codes ";") refl))
 
@@ -406,6 +405,9 @@ unit_nests u inside =
     (left (max structs (max objects functions)) (deeper (deepest (map one u.externs)) 1 (texts (map extern_text u.externs)) (ones u.externs) (one_after_another extern_text one ExternInSubset extern_nests u.externs inside.externs))))
     (right 1 (right structs (left functions (one_after_another file_object_text object_nested ObjectInSubset file_object_nests u.objects inside.objects)))))
     (right 1 (right structs (right objects (one_after_another function_text function_nested FunctionInSubset function_nests u.functions inside.functions))))
+
+pub unit_nests_so : (u : TranslationUnit) → InSubset u → (n : ℕ) → open_brackets 0 (take n (unit_text u)) ≤ nested u
+unit_nests_so u inside n = let bound : open_brackets 0 (take n (unit_text u)) ≤ 0 + nested u = (unit_nests u inside).within 0 n in omega arith
 
 pub unit_is_shallow : (u : TranslationUnit) → InSubset u → nested u ≤ 300 → IsShallow (unit_text u)
 unit_is_shallow u inside few = shallow (nested u) (unit_text u) few (unit_nests u inside)

@@ -1,7 +1,6 @@
 -- What is asked of expressions, places, calls and initializers, in text order: the place of each rule is where its form begins.
 use Rattle.std.specs.Prelude.{ℕ, zero, suc, ◌+◌, ◌==◌, ◌||◌, not, Bool, true, false, List, [], ◌∷◌, ◌++◌, length, codes, Option, Some, None}
-use Rattle.std.specs.Option.{is_some, option_map, option_and_then}
-use Rattle.c_ast.specs.declared.types.CScalar.{CScalar}
+use Rattle.std.specs.Option.{is_some, option_map}
 use Rattle.c_ast.specs.declared.types.CBase.{CBase}
 use Rattle.c_ast.specs.declared.types.CBase.TheVariants as base
 use Rattle.c_ast.specs.declared.types.CType.{CType}
@@ -10,7 +9,7 @@ use Rattle.c_ast.specs.declared.types.Target.{Target}
 use Rattle.c_ast.specs.Conversions.{constant_type}
 use Rattle.c_ast.specs.Names.{named}
 use Rattle.c_ast.specs.Signatures.{Signature}
-use Rattle.c_ast.specs.StaticTypes.{ValueType, Arithmetic, PointerTo, PlaceType, Held, Stored, declared, value_type, of_unary, of_binary, of_choice, of_cast, of_read, of_address, expr_type, place_type, member_tree, may_be_given}
+use Rattle.c_ast.specs.StaticTypes.{ValueType, Arithmetic, PointerTo, PlaceType, Held, Stored, declared, value_type, of_binary, of_choice, of_cast, of_read, of_address, expr_type, place_type, member_tree, may_be_given}
 use Rattle.c_ast.specs.Structs.{CTree, CRow}
 use Rattle.c_ast.specs.Syntax.{Name, Expr, Number, Read, Address, Unary, Binary, Cast, Cond, Place, Var, At, Member, Element, Init, One, Zero, Many, Inits, NoInits, MoreInits, FunctionCall}
 use Rattle.c_ast.specs.Targets.{table_of}

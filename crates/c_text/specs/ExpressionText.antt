@@ -1,5 +1,5 @@
 -- How expressions, places, initializers and calls are written (C99 6.5, 6.7.8): each operator in parentheses of its own, with a
--- blank on both sides of one between two operands.
+-- space on both sides of one between two operands.
 use Rattle.std.specs.Prelude.{ℕ, List, [], ◌∷◌, ◌++◌, map, codes, decimal}
 use Rattle.c_ast.specs.declared.expr.Suffix.{Suffix}
 use Rattle.c_ast.specs.declared.expr.Suffix.TheVariants.{Plain, U, Ll, Ull}

@@ -1,15 +1,15 @@
 -- Small units, and exactly which fault they have first: examples that hold the rules fast.
-use Rattle.std.specs.Prelude.{◌≡◌, ℕ, List, [], ◌∷◌, Option, Some, None, codes, true, false}
-use Rattle.iv_words.specs.declared.IntKind.TheVariants.{U8, U32}
+use Rattle.std.specs.Prelude.{◌≡◌, ℕ, List, [], ◌∷◌, Option, Some, None, codes, false}
+use Rattle.iv_words.specs.declared.IntKind.TheVariants.{U8}
 use Rattle.c_ast.specs.declared.types.Target.TheVariants.{T32}
 use Rattle.c_ast.specs.declared.types.CScalar.TheVariants.{Int}
 use Rattle.c_ast.specs.declared.types.CBase.{CBase}
 use Rattle.c_ast.specs.declared.types.CBase.TheVariants as base
-use Rattle.c_ast.specs.declared.types.CType.TheVariants.{Void, Value, Pointer}
+use Rattle.c_ast.specs.declared.types.CType.TheVariants.{Value, Pointer}
 use Rattle.c_ast.specs.declared.expr.Suffix.TheVariants.{Plain}
 use Rattle.c_ast.specs.declared.unit.CStruct.{CStruct}
-use Rattle.c_ast.specs.Examples.{rows, procedure, unit_with}
-use Rattle.c_ast.specs.Syntax.{Name, Expr, Number, Read, Address, Place, Var, At, Member, Element, Init, One, Zero, Many, Inits, NoInits, MoreInits, FunctionCall, Stmt, Const, ConstCall, Object, Assign, If, IfElse, Forever, Break, Return, Block, Call, Stmts, Nil, Cons, TranslationUnit}
+use Rattle.c_ast.specs.Examples.{procedure, unit_with}
+use Rattle.c_ast.specs.Syntax.{Name, Expr, Number, Read, Address, Var, Member, Element, One, Zero, Many, NoInits, MoreInits, Stmt, Const, Object, Assign, Forever, Break, Return, Block, Call, Nil, Cons}
 use Rattle.c_text.specs.declared.fault.CFault.{CFault}
 use Rattle.c_text.specs.declared.fault.CWhy.{CWhy}
 use Rattle.c_text.specs.declared.fault.CWhy.TheVariants.{BadName, BadType}

@@ -1,9 +1,8 @@
--- Identifiers of the C subset (C99 6.4.2.1, 5.2.4.1, 7.1.3): letters, digits and underscores, no digit first, at most 31 bytes,
--- and no keyword of C99 (6.4.1), type name of the subset or truth value.
+-- Identifiers of the C subset (C99 6.4.2.1, 5.2.4.1): letters, digits and underscores, no digit first, at most 31 bytes,
+-- and no keyword of C99 (6.4.1), type name of the subset (7.18.1.1) or truth value (7.16).
 use Rattle.std.specs.Prelude.{◌≡◌, ℕ, ◌<◌, ◌≤◌, ◌==◌, ◌&&◌, ◌||◌, nat_le, Bool, false, List, [], ◌∷◌, length, codes, IsTrue}
 use Rattle.std.specs.List.{list_any, list_all}
 use Rattle.iv_words.specs.Words.{same_word}
-use Rattle.c_ast.specs.Names.{prefixed}
 
 abbrev pub is_between : ℕ → ℕ → ℕ → Bool
 is_between low high b = nat_le low b && nat_le b high
@@ -46,10 +45,3 @@ pub record IsIdentifier (word : List ℕ) : Type 0 where
   pub spelled : IsTrue (list_all is_identifier_byte word)
   pub short : length word ≤ 31
   pub free : is_reserved word ≡ false
-
--- a name of file scope: the prefix, and at least one byte more
-pub record IsFileName (word : List ℕ) : Type 0 where
-  pub identifier : IsIdentifier word
-  pub rest : List ℕ
-  pub some : 0 < length rest
-  pub with_prefix : word ≡ prefixed rest

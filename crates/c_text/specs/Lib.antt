@@ -3,8 +3,8 @@ pub mod TypeText
 pub mod ExpressionText
 pub mod StatementText
 pub mod Spelling
+pub mod SpellingExamples
 pub mod Subset
-pub mod FirstForms
 pub mod Nested
 pub mod Rules
 pub mod Scopes

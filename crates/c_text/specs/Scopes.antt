@@ -1,16 +1,15 @@
 -- The names that are in scope at a place of a text (C99 6.2.1, 6.2.3): tags, and the names of functions, objects and held values.
-use Rattle.std.specs.Prelude.{ℕ, ◌&&◌, ◌||◌, nat_lt, not, Bool, true, false, List, [], ◌∷◌, length, Option, Some, None, if◌then◌else◌}
+use Rattle.std.specs.Prelude.{ℕ, ◌&&◌, ◌||◌, nat_lt, not, Bool, false, List, [], ◌∷◌, length, Option, Some, None, if◌then◌else◌}
 use Rattle.std.specs.Option.{is_some}
 use Rattle.std.specs.List.{list_any}
 use Rattle.iv_words.specs.Words.{same_word}
-use Rattle.c_ast.specs.declared.types.CBase.{CBase}
 use Rattle.c_ast.specs.declared.types.CType.{CType}
 use Rattle.c_ast.specs.declared.unit.CStruct.{CStruct}
 use Rattle.c_ast.specs.Names.{named, has_prefix, stop_name}
 use Rattle.c_ast.specs.Signatures.{Signature}
 use Rattle.c_ast.specs.StaticTypes.{ValueType, Entity, ConstName, ObjectName, value_type}
 use Rattle.c_ast.specs.Syntax.{Name, Stmt, Const, ConstCall, Object, Assign, If, IfElse, Forever, Break, Return, Block, Call}
-use Rattle.c_text.specs.Rules.{Demand, NameIsNew, NameIsOfFile, ask}
+use Rattle.c_text.specs.Rules.{Demand, NameIsNew, ask}
 
 -- The structs that are declared, the functions and externs that can be called, the function that the place stands in, which cannot,
 -- and what the other names are, the latest first. At file scope an initializer may use none of these.

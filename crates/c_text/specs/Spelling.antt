@@ -1,6 +1,5 @@
 -- The one text that spells a unit, byte for byte: three fixed lines, and then structs, externs, objects and functions (C99 6.9).
 use Rattle.std.specs.Prelude.{ℕ, Bool, if◌then◌else◌, List, [], ◌∷◌, ◌++◌, map, Option, Some, None, codes, decimal}
-use Rattle.c_ast.specs.declared.types.CType.{CType}
 use Rattle.c_ast.specs.declared.unit.CMember.{CMember}
 use Rattle.c_ast.specs.declared.unit.CStruct.{CStruct}
 use Rattle.c_ast.specs.declared.unit.CExtern.{CExtern}

@@ -1,5 +1,5 @@
 -- What is asked of statements, in text order (C99 6.7, 6.8), in a function of a result and within a loop or not.
-use Rattle.std.specs.Prelude.{ℕ, ◌+◌, not, Bool, true, false, List, [], ◌∷◌, ◌++◌, codes, Option, Some, None}
+use Rattle.std.specs.Prelude.{ℕ, ◌+◌, not, Bool, true, false, List, [], ◌++◌, codes, Option, Some, None}
 use Rattle.std.specs.Option.{is_some, option_and_then}
 use Rattle.c_ast.specs.declared.types.CBase.{CBase}
 use Rattle.c_ast.specs.declared.types.CScalar.{CScalar}
@@ -9,7 +9,7 @@ use Rattle.c_ast.specs.declared.types.Target.{Target}
 use Rattle.c_ast.specs.StaticTypes.{assigned_scalar}
 use Rattle.c_ast.specs.Structs.{tree}
 use Rattle.c_ast.specs.Syntax.{Expr, Init, Stmt, Const, ConstCall, Object, Assign, If, IfElse, Forever, Break, Return, Block, Call, Stmts, Nil, Cons}
-use Rattle.c_text.specs.TypeText.{line, base_text, const_text, object_text}
+use Rattle.c_text.specs.TypeText.{line, const_text, object_text}
 use Rattle.c_text.specs.ExpressionText.{expr_text, place_text}
 use Rattle.c_text.specs.StatementText.{indent, stmt_text, block_text, stmts_text}
 use Rattle.c_text.specs.Rules.{Demand, AssignedIsScalar, ReturnMatches, BreakIsInLoop, ask, behind, where_typed}
@@ -58,7 +58,7 @@ module _ (target : Target) where
     stmt_demands result in_loop braces names at (Block a) = stmts_demands result in_loop (braces + 1) names (behind at (line (codes "{"))) a
     stmt_demands result in_loop braces names at (Call c) = call_demands target names at None c
 
-    -- lines from a place on, each of which begins with its blanks
+    -- lines from a place on, each of which begins with its spaces
     pub stmts_demands : CType → (in_loop : Bool) → (braces : ℕ) → Names → ℕ → Stmts → List Demand
     stmts_demands result in_loop braces names at Nil = []
     stmts_demands result in_loop braces names at (Cons s rest) =

@@ -1,10 +1,11 @@
--- How statements are written (C99 6.8): each on a line of its own, two blanks in for each brace that is open.
-use Rattle.std.specs.Prelude.{ℕ, ◌+◌, ◌*◌, List, [], ◌∷◌, ◌++◌, Option, Some, None, replicate, codes}
+-- How statements are written (C99 6.8): a declaration, assignment, call or jump is a line; a block begins behind what it belongs to,
+-- and its lines and its closing brace stand on their own. Each line is two spaces in for each brace that is open around it.
+use Rattle.std.specs.Prelude.{ℕ, ◌+◌, ◌*◌, List, [], ◌++◌, Option, Some, None, replicate, codes}
 use Rattle.c_ast.specs.Syntax.{Expr, Init, Stmt, Const, ConstCall, Object, Assign, If, IfElse, Forever, Break, Return, Block, Call, Stmts, Nil, Cons}
 use Rattle.c_text.specs.TypeText.{line, const_text, object_text}
 use Rattle.c_text.specs.ExpressionText.{expr_text, place_text, init_text, call_text}
 
--- two blanks for each brace that is open
+-- two spaces for each brace that is open
 abbrev pub indent : ℕ → List ℕ
 indent braces = replicate (2 * braces) 32
 

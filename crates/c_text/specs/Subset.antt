@@ -1,6 +1,6 @@
 -- The units that a text can spell: names and numbers that can be written, types where they may stand, and no tree that would be
 -- written as another is.
-use Rattle.std.specs.Prelude.{ℕ, ◌≡◌, ◌≢◌, ◌^◌, ◌<◌, ⊤, List, [], ◌∷◌, Option, Some, None, All}
+use Rattle.std.specs.Prelude.{ℕ, ◌≢◌, ◌^◌, ◌<◌, ⊤, [], Option, Some, None, All}
 use Rattle.c_ast.specs.declared.types.CBase.{CBase}
 use Rattle.c_ast.specs.declared.types.CBase.TheVariants.{Scalar, Struct}
 use Rattle.c_ast.specs.declared.types.CType.{CType}
@@ -11,6 +11,7 @@ use Rattle.c_ast.specs.declared.unit.CStruct.{CStruct}
 use Rattle.c_ast.specs.declared.unit.CExtern.{CExtern}
 use Rattle.c_ast.specs.declared.unit.CParam.{CParam}
 use Rattle.c_ast.specs.Syntax.{Expr, Number, Read, Address, Unary, Binary, Cast, Cond, Place, Var, At, Member, Element, Init, One, Zero, Many, Inits, NoInits, MoreInits, FunctionCall, Stmt, Const, ConstCall, Object, Assign, If, IfElse, Forever, Break, Return, Block, Call, Stmts, Nil, Cons, FileObject, Function, TranslationUnit}
+use Rattle.c_ast.specs.Signatures.{IsResult}
 use Rattle.c_text.specs.Identifiers.{IsIdentifier}
 
 -- ---- types
@@ -33,9 +34,7 @@ ResultInSubset (Pointer constant base) = BaseInSubset base
 
 -- and that of an extern, which is no pointer
 abbrev pub ExternResultInSubset : CType → Type 0
-ExternResultInSubset Void = ⊤
-ExternResultInSubset (Value s) = ⊤
-ExternResultInSubset (Pointer constant base) = ⊥
+ExternResultInSubset = IsResult
 
 -- ---- expressions and places
 
@@ -64,7 +63,7 @@ abbrev mutual
 
 -- ---- initializers and calls
 
--- there is one at least, and `{0}` is how Zero is written
+-- a list has one initializer at least, and is not the one that `{0}` would be: so Zero is written, whatever its type
 abbrev pub IsNotZero : Inits → Type 0
 IsNotZero NoInits = ⊥
 IsNotZero (MoreInits i is) = MoreInits i is ≢ MoreInits (One (Number 0 Plain)) NoInits

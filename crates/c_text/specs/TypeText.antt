@@ -1,4 +1,4 @@
--- How types are written, and names with their types before them (C99 6.7.5, 6.7.6): a blank stands before a name, save behind `*`.
+-- How types are written, and names with their types before them (C99 6.7.5, 6.7.6): a space stands before a name, save behind `*`.
 use Rattle.std.specs.Prelude.{ℕ, Bool, if◌then◌else◌, List, [], ◌∷◌, ◌++◌, codes}
 use Rattle.iv_words.specs.declared.kind.IntKind.{IntKind}
 use Rattle.iv_words.specs.declared.kind.IntKind.TheVariants.{U8, U16, U32, U64, I8, I16, I32, I64}
@@ -16,7 +16,7 @@ use Rattle.c_ast.specs.Syntax.{Name}
 abbrev pub line : List ℕ → List ℕ
 line text = text ++ 10 ∷ []
 
--- the texts of a list with a comma and a blank between two of them
+-- the texts of a list with a comma and a space between two of them
 abbrev pub listed : List (List ℕ) → List ℕ
 listed [] = []
 listed (t ∷ []) = t

@@ -15,7 +15,7 @@ use Rattle.c_ast.specs.StaticTypes.{Entity, ObjectName}
 use Rattle.c_ast.specs.Structs.{table, row_of, tree}
 use Rattle.c_ast.specs.Syntax.{Name, FileObject, Function, TranslationUnit}
 use Rattle.type_trees.specs.Layouts.{end_row}
-use Rattle.c_text.specs.TypeText.{line, base_text, type_text, typed_text, const_text, object_text}
+use Rattle.c_text.specs.TypeText.{line, type_text, typed_text, const_text, object_text}
 use Rattle.c_text.specs.Spelling.{member_text, struct_text, params_text, extern_text, base_const_text, file_object_text, storage_text, param_text, function_text, fixed_text}
 use Rattle.c_text.specs.Rules.{Demand, TagIsNew, MemberIsNew, NameIsOfFile, LengthIsAllowed, MemberEndsInTime, ask, behind}
 use Rattle.c_text.specs.Scopes.{Names, is_tag, with_const, new_name, is_of_file}

@@ -2,7 +2,8 @@
 
 ghost use Rattle.c_text.specs.FaultExamples.{FaultExamples, StructFaultExamples};
 ghost use Rattle.c_text.specs.FirstFault.{RightOrAtFault, NotRightAndAtFault, OneFirstFault, SearchFindsIt};
-ghost use Rattle.c_text.specs.Laws.{UnitsNestAsTheyAre, RightUnitsReadBack, FirstTextsTellUnitsApart, HeadThenFunctions};
+ghost use Rattle.c_text.specs.Laws.{UnitsNestAsTheyAre, RightUnitsReadBack, HeadThenFunctions};
+ghost use Rattle.c_text.specs.SpellingExamples.{DeclarationsAreWritten, ExpressionsAreWritten, StatementsAreWritten, TypesAreWritten, UnitsAreWritten};
 
 /// A unit of the subset whose names and types are right, and that nests to at most 300 brackets, reads back from its own text.
 pub fn right_units_read_back()
@@ -24,9 +25,13 @@ pub fn fault_examples()
     ensures structs { StructFaultExamples }
 {}
 
-/// Bytes spell at most one unit of the first forms.
-pub fn first_texts_tell_units_apart()
-    ensures { FirstTextsTellUnitsApart }
+/// How small units are written, byte for byte.
+pub fn spelling_examples()
+    ensures types { TypesAreWritten }
+    ensures expressions { ExpressionsAreWritten }
+    ensures declarations { DeclarationsAreWritten }
+    ensures statements { StatementsAreWritten }
+    ensures units { UnitsAreWritten }
 {}
 
 /// The text of a unit is that of its head, and then those of its functions in order.

@@ -1,11 +1,10 @@
 -- The texts of a list, put one after another.
-use Rattle.std.proofs.Common.{◌≡◌, refl, sym, ◌∙◌, ap, subst, ℕ, ◌+◌, ◌*◌, ◌<◌, ◌≤◌, false, Bool, true, List, [], ◌∷◌, ◌++◌, length, take, get_or, append_assoc, arith}
+use Rattle.std.proofs.Common.{◌≡◌, refl, sym, ◌∙◌, ap, subst, ℕ, ◌+◌, ◌*◌, ◌<◌, ◌≤◌, Bool, true, List, [], ◌∷◌, ◌++◌, length, take, get_or, append_assoc, arith}
 use Rattle.std.specs.Prelude.{map, replicate, codes}
 use Rattle.std.proofs.lemmas.List.{take_more, take_all, map-append, append-nil, replicate-append-replicate}
 use Rattle.c_ast.specs.Syntax.{Init, Stmt}
 use Rattle.c_ast.specs.View.{inits_from, stmts_from}
-use Rattle.c_ast.specs.declared.types.CType.{CType}
-use Rattle.c_text.specs.TypeText.{texts, listed, type_text}
+use Rattle.c_text.specs.TypeText.{texts, listed}
 use Rattle.c_text.specs.ExpressionText.{init_text, init_texts}
 use Rattle.c_text.specs.Spelling.{params_text}
 use Rattle.c_writer.specs.Separated.{comma, has_any}
@@ -68,7 +67,7 @@ params_put text xs x rest {s} {e} is puts =
     let whole : codes "(" ++ text x ++ further ++ codes ")" ≡ params_text (map text (x ∷ rest)) = ap (λ t. 40 ∷ (t ++ codes ")")) (sym (listed_is text x rest)) in
     subst (Puts s e) (whole ∙ ap (λ ys. params_text (map text ys)) (sym is)) puts
 
--- an operator between its operands with its blanks
+-- an operator between its operands with its spaces
 pub around : (o a s p t b e : List ℕ) → o ++ a ++ (s ++ p ++ t) ++ b ++ e ≡ o ++ a ++ s ++ p ++ t ++ b ++ e
 around o a s p t b e = simp append_assoc
 

@@ -11,7 +11,7 @@ pub enum Braces<'a> {
     In(&'a Braces<'a>),
 }
 
-/// Two blanks for each brace that is open.
+/// Two spaces for each brace that is open.
 pub fn put_indent<P: Pieces>(braces: &Braces, out: &mut P)
     ensures { Puts (P.stage out.old) (P.stage out.new) (indent (depth braces.now)) }
 {

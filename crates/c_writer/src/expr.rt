@@ -76,7 +76,7 @@ fn put_cast<P: Pieces>(ty: &CType, out: &mut P)
     out.put(b")");
 }
 
-/// An operator between its operands, with a blank on both sides.
+/// An operator between its operands, with a space on both sides.
 fn put_operator<P: Pieces>(op: CBinary, out: &mut P)
     ensures { Puts (P.stage out.old) (P.stage out.new) (codes " " ++ binary_text op ++ codes " ") }
 {

@@ -26,7 +26,7 @@ pub fn put_init<P: Pieces>(init: &CInit, out: &mut P)
     }
 }
 
-/// A comma and a blank behind others.
+/// A comma and a space behind others.
 fn put_comma<P: Pieces>(more: bool, out: &mut P)
     ensures { Puts (P.stage out.old) (P.stage out.new) (comma more) }
 {

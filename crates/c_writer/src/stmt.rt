@@ -121,6 +121,13 @@ fn put_test<P: Pieces>(test: &CExpr, braces: &Braces, out: &mut P)
     out.put(b") ");
 }
 
+/// `else` between two blocks.
+fn put_else<P: Pieces>(out: &mut P)
+    ensures { Puts (P.stage out.old) (P.stage out.new) (codes " else ") }
+{
+    out.put(b" else ");
+}
+
 /// A statement that stands in so many braces.
 #[cycle(stmts)]
 fn put_stmt<P: Pieces>(stmt: &CStmt, braces: &Braces, out: &mut P)
@@ -137,7 +144,7 @@ fn put_stmt<P: Pieces>(stmt: &CStmt, braces: &Braces, out: &mut P)
             match second {
                 None => out.put(b"\n"),
                 Some(second) => {
-                    out.put(b" else ");
+                    put_else(out);
                     put_block_line(second.as_slice(), braces, out);
                 }
             }

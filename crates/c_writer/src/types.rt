@@ -35,14 +35,14 @@ pub fn scalar_name(scalar: CScalar) -> &'static [u8]
     }
 }
 
-/// `static` and a blank before a function that only its unit sees.
+/// `static` and a space before a function that only its unit sees.
 pub fn storage_name(hidden: bool) -> &'static [u8]
     ensures { result.now ≡ storage_text hidden }
 {
     if hidden { b"static " } else { b"" }
 }
 
-/// `const` and a blank before the name of a const object.
+/// `const` and a space before the name of a const object.
 pub fn const_name(constant: bool) -> &'static [u8]
     ensures { result.now ≡ base_const_text constant }
 {

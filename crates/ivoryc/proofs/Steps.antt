@@ -5,8 +5,8 @@ use Rattle.c_ast.specs.declared.CUnit.{CUnit}
 use Rattle.c_ast.specs.declared.Target.TheVariants.{T32}
 use Rattle.c_ast.specs.View.{unit_of}
 use Rattle.c_text.specs.Spelling.{unit_text}
-use Rattle.c_text.proofs.Unique.{one_unit}
 use Rattle.c_text.specs.ReadsBack.{ReadsBack}
+use Rattle.c_grammar.proofs.Texts.{texts_apart}
 use Rattle.ivory_lexer.specs.Limits.{source_limit}
 use Rattle.ivoryc.specs.declared.command.Command.TheVariants.{Emit}
 use Rattle.ivoryc.specs.declared.refusal.Refusal.{Refusal}
@@ -36,7 +36,7 @@ is_compiled text u is =
       reads_back = subst Reads is.compiled.reads_back.spelled.is is.compiled.reads_back;
       shape = is.compiled.shape;
       refines = is.compiled.refines;
-      only = λ v first spells. one_unit v (unit_of u) first is.compiled.forms (sym spells.is);
+      only = λ v spells. texts_apart v (unit_of u) (unit_text (unit_of u)) spells (record { in_subset = is.compiled.reads_back.spelled.in_subset; is = refl });
     }
 
 judged_so : (file front seen : List ℕ) (store : Change StoreSeen) (out : Change SinkSeen) (v : Verdict) → Gives store.before.holds file source_limit front

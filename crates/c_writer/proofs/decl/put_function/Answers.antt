@@ -1,4 +1,3 @@
-use Rattle.c_writer.specs.Depths.{depth}
 use Rattle.c_writer.proofs.Depths.{none_is}
 use Rattle.c_writer.proofs.Stages.{then}
 use Rattle.c_writer.proofs.decl.put_function.Goals as goal

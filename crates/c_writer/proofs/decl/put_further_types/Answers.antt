@@ -1,9 +1,7 @@
-use Rattle.std.proofs.Common.{ap, sym, ◌++◌}
+use Rattle.std.proofs.Common.{◌++◌}
 use Rattle.std.specs.Prelude.{codes}
-use Rattle.c_text.specs.TypeText.{texts}
 use Rattle.c_text.specs.TypeText.{type_text}
 use Rattle.c_writer.proofs.Lists.{one_more, all_put}
-use Rattle.c_writer.proofs.Stages.{then, as_text}
 use Rattle.c_writer.proofs.decl.put_further_types.Goals as goal
 
 pub loop-ty-preserved : goal.loop-ty-preserved

@@ -1,9 +1,5 @@
-use Rattle.std.proofs.Common.{ap, sym, ◌++◌}
-use Rattle.std.specs.Prelude.{codes}
-use Rattle.c_text.specs.TypeText.{texts}
 use Rattle.c_text.specs.Spelling.{member_text}
 use Rattle.c_writer.proofs.Lists.{one_more, all_put}
-use Rattle.c_writer.proofs.Stages.{then, as_text}
 use Rattle.c_writer.proofs.decl.put_members.Goals as goal
 
 pub loop-m-preserved : goal.loop-m-preserved

@@ -1,5 +1,5 @@
-use Rattle.std.proofs.Common.{take, ◌++◌}
-use Rattle.std.specs.Prelude.{map, codes}
+use Rattle.std.proofs.Common.{take}
+use Rattle.std.specs.Prelude.{map}
 use Rattle.c_text.specs.TypeText.{texts}
 use Rattle.c_text.specs.Spelling.{member_text}
 use Rattle.c_writer.specs.Stages.{Puts}

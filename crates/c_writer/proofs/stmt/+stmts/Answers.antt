@@ -1,4 +1,4 @@
-use Rattle.std.proofs.Common.{◌≡◌, ◌++◌, ◌∙◌, ◌∷◌, [], ap, sym, Some, None, append_assoc}
+use Rattle.std.proofs.Common.{◌≡◌, ◌++◌, ◌∙◌, ◌∷◌, [], ap, Some, None, append_assoc}
 use Rattle.std.specs.Prelude.{codes}
 use Rattle.c_ast.specs.declared.stmt.CStmt.TheVariants as stmt
 use Rattle.c_ast.specs.View.{expr_of, stmt_of}
@@ -48,4 +48,4 @@ pub put_stmt-returns-in-Some : goal.put_stmt-returns-in-Some
 put_stmt-returns-in-Some g t c =
     let whole : c.args.stmt.now ≡ stmt.If c.in-If.test c.in-If.first (Some c.in-Some.second) = c.in-If.is ∙ ap (λ x. stmt.If c.in-If.test c.in-If.first x) c.in-Some.is in
     rw whole (rw (if_else_is c.in-If.test c.in-If.first c.in-Some.second)
-    (then (then (then c.put_test.ensures (rw c.as_slice.ensures at c.put_block.ensures)) c.put-in-Some.ensures) (rw c.as_slice-in-Some.ensures at c.put_block_line.ensures)))
+    (then (then (then c.put_test.ensures (rw c.as_slice.ensures at c.put_block.ensures)) c.put_else.ensures) (rw c.as_slice-in-Some.ensures at c.put_block_line.ensures)))

@@ -1,9 +1,5 @@
-use Rattle.std.proofs.Common.{ap, sym, ◌++◌}
-use Rattle.std.specs.Prelude.{codes}
-use Rattle.c_text.specs.TypeText.{texts}
 use Rattle.c_text.specs.Spelling.{extern_text}
 use Rattle.c_writer.proofs.Lists.{one_more, all_put}
-use Rattle.c_writer.proofs.Stages.{then, as_text}
 use Rattle.c_writer.proofs.unit.put_externs.Goals as goal
 
 pub loop-x-preserved : goal.loop-x-preserved

@@ -1,11 +1,10 @@
-use Rattle.std.proofs.Common.{ap, sym, ◌++◌}
-use Rattle.std.specs.Prelude.{codes}
+use Rattle.std.proofs.Common.{ap, sym}
 use Rattle.std.proofs.lemmas.Simd.{map-map}
 use Rattle.c_text.specs.TypeText.{texts}
 use Rattle.c_ast.specs.View.{object_of}
 use Rattle.c_text.specs.Spelling.{file_object_text}
 use Rattle.c_writer.proofs.Lists.{one_more, all_put}
-use Rattle.c_writer.proofs.Stages.{then, as_text}
+use Rattle.c_writer.proofs.Stages.{as_text}
 use Rattle.c_writer.proofs.unit.put_objects.Goals as goal
 
 pub loop-o-preserved : goal.loop-o-preserved

@@ -1,9 +1,5 @@
-use Rattle.std.proofs.Common.{ap, sym, ◌++◌}
-use Rattle.std.specs.Prelude.{codes}
-use Rattle.c_text.specs.TypeText.{texts}
 use Rattle.c_text.specs.Spelling.{struct_text}
 use Rattle.c_writer.proofs.Lists.{one_more, all_put}
-use Rattle.c_writer.proofs.Stages.{then, as_text}
 use Rattle.c_writer.proofs.unit.put_structs.Goals as goal
 
 pub loop-s-preserved : goal.loop-s-preserved

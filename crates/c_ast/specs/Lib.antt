@@ -1,6 +1,7 @@
 pub mod Syntax
 pub mod View
 pub mod Names
+pub mod Signatures
 pub mod Targets
 pub mod Conversions
 pub mod ConversionLaws

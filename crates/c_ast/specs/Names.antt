@@ -1,6 +1,7 @@
--- The names of the outside: in C they have `iv_` before them, save the one function that ends a run.
-use Rattle.std.specs.Prelude.{◌++◌, drop, Bool, if◌then◌else◌, nat_eq, codes}
+-- Names, and what a table has for them. Those of the outside have `iv_` before them in C, save the one function that ends a run.
+use Rattle.std.specs.Prelude.{List, [], ◌∷◌, ◌++◌, drop, Bool, Option, Some, None, if◌then◌else◌, nat_eq, codes}
 use Rattle.std.specs.List.{starts_with}
+use Rattle.iv_words.specs.Words.{same_word}
 use Rattle.c_ast.specs.Syntax.{Name}
 
 abbrev pub prefix : Name
@@ -20,3 +21,8 @@ outer_name name = if has_prefix name then drop 3 name else name
 -- the function that every unit declares, and that ends the run at a check
 abbrev pub stop_name : Name
 stop_name = codes "ivory_stop"
+
+-- what a table has for a name: of two entries of a name the first counts
+abbrev pub named : {A : Type 0} → List (Name × A) → Name → Option A
+named [] x = None
+named (n ∷ names) x = if same_word n.0 x then Some n.1 else named names x

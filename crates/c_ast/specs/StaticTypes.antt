@@ -1,9 +1,12 @@
 -- The static types of expressions and places (C99 6.5), from the declarations of the names in scope alone. Where there is none, a
 -- rule of the text is broken. Operators, `?:` and conditions take numbers alone; of pointers there are names, `*`, `&` and casts.
-use Rattle.std.specs.Prelude.{◌≡◌, ⊤, List, [], ◌∷◌, Bool, true, false, not, ◌||◌, IsTrue, Option, Some, None, if◌then◌else◌}
+use Rattle.std.specs.Prelude.{List, [], ◌∷◌, Bool, true, false, not, ◌&&◌, ◌||◌, Option, Some, None, if◌then◌else◌}
 use Rattle.std.specs.Option.{option_map, option_and_then}
+use denote.Enum.Bare.{sameb}
+use Rattle.iv_words.specs.contracts.kind.IntKind as kinds
 use Rattle.iv_words.specs.Words.{same_word}
 use Rattle.c_ast.specs.declared.types.CScalar.{CScalar}
+use Rattle.c_ast.specs.declared.types.CScalar.TheVariants as scalar
 use Rattle.c_ast.specs.declared.types.Arith.TheVariants.{Int}
 use Rattle.c_ast.specs.declared.types.CKind.{CKind}
 use Rattle.c_ast.specs.declared.types.CKind.TheVariants.{Scalar, Arith as Computed}
@@ -16,6 +19,7 @@ use Rattle.c_ast.specs.declared.expr.CUnary.TheVariants.{Neg, Flip, Not}
 use Rattle.c_ast.specs.declared.expr.CBinary.{CBinary}
 use Rattle.c_ast.specs.declared.expr.CBinary.TheVariants.{Add, Sub, Mul, Div, Rem, And, Or, Xor, Shl, Shr, Eq, Ne, Lt, Le, Gt, Ge, AndAlso, OrElse}
 use Rattle.c_ast.specs.declared.unit.CStruct.{CStruct}
+use Rattle.c_ast.specs.Names.{named}
 use Rattle.c_ast.specs.Syntax.{Name, Expr, Number, Read, Address, Unary, Binary, Cast, Cond, Place, Var, At, Member, Element}
 use Rattle.type_trees.specs.Trees.{Leaf, Many, Struct, End, Field}
 use Rattle.c_ast.specs.Structs.{CTree, CRow, tree}
@@ -29,7 +33,8 @@ pub data ValueType : Type 0 where
   Arithmetic : CKind → ValueType
   PointerTo : (constant : Bool) → CBase → ValueType
 
--- the type of a place: a const name, which is no object and only holds a value, or an object's, with its const flag (6.7.3)
+-- The type of a place: of a const name the type of the value that it holds, or an object's, with its const flag (6.7.3). In C99 a const
+-- name is an object too; here it counts as its value, since nothing of the subset writes to it or takes its address.
 pub data PlaceType : Type 0 where
   Held : ValueType → PlaceType
   Stored : (constant : Bool) → CTree → PlaceType
@@ -44,8 +49,7 @@ Scope = Name → Option Entity
 
 -- the scope of declarations, the latest first: of two of a name the latest counts (6.2.1)
 abbrev pub declared : List (Name × Entity) → Scope
-declared [] x = None
-declared (d ∷ ds) x = if same_word d.0 x then Some d.1 else declared ds x
+declared ds = named ds
 
 -- the type of a value of a C type; `void` has none
 abbrev pub value_type : CType → Option ValueType
@@ -176,14 +180,26 @@ module _ (t : TargetTable) (structs : List CStruct) (scope : Scope) where
 
 -- ---- what is given, and what is assigned to
 
+abbrev pub same_scalar : CScalar → CScalar → Bool
+same_scalar scalar.Truth scalar.Truth = true
+same_scalar scalar.Truth (scalar.Int k) = false
+same_scalar (scalar.Int k) scalar.Truth = false
+same_scalar (scalar.Int k) (scalar.Int l) = sameb kinds.the_type k l
+
+abbrev pub same_base : CBase → CBase → Bool
+same_base (base.Scalar s) (base.Scalar t) = same_scalar s t
+same_base (base.Scalar s) (base.Struct k) = false
+same_base (base.Struct k) (base.Scalar s) = false
+same_base (base.Struct k) (base.Struct l) = same_word k l
+
 -- What may be given where a value of a type is wanted: in a declaration, an assignment, an argument and a return (6.5.16.1, 6.5.2.2,
 -- 6.7.8, 6.8.6.4). Numbers convert; a pointer keeps its base and may gain `const`.
-abbrev pub MayBeGiven : ValueType → CType → Type 0
-MayBeGiven (Arithmetic k) (Value s) = ⊤
-MayBeGiven (PointerTo constant b) (Pointer to_constant to) = (b ≡ to) × IsTrue (not constant || to_constant)
-MayBeGiven (Arithmetic k) (Pointer to_constant to) = ⊥
-MayBeGiven (PointerTo constant b) (Value s) = ⊥
-MayBeGiven v Void = ⊥
+abbrev pub may_be_given : ValueType → CType → Bool
+may_be_given (Arithmetic k) (Value s) = true
+may_be_given (PointerTo constant b) (Pointer to_constant to) = same_base b to && (not constant || to_constant)
+may_be_given (Arithmetic k) (Pointer to_constant to) = false
+may_be_given (PointerTo constant b) (Value s) = false
+may_be_given v Void = false
 
 -- the scalar to which a place may be assigned: no const name, nothing const, no array and no struct (6.5.16)
 abbrev pub assigned_scalar : PlaceType → Option CScalar

@@ -20,7 +20,7 @@ use Rattle.c_ast.specs.Syntax.{Name, Expr, Number, Read, Address, Unary, Binary,
 use Rattle.type_trees.specs.Trees.{Leaf, Many}
 use Rattle.c_ast.specs.Structs.{CTree, tree}
 use Rattle.c_ast.specs.Targets.{table_of}
-use Rattle.c_ast.specs.StaticTypes.{ValueType, Arithmetic, PointerTo, PlaceType, Held, Stored, Entity, ConstName, ObjectName, Scope, declared, expr_type, place_type, assigned_scalar}
+use Rattle.c_ast.specs.StaticTypes.{ValueType, Arithmetic, PointerTo, PlaceType, Held, Stored, Entity, ConstName, ObjectName, Scope, declared, expr_type, place_type, may_be_given, assigned_scalar}
 
 -- ---- writing types, and where the expressions are
 
@@ -145,3 +145,15 @@ pub record AssignedPlaces : Type 0 where
   pub const_name : assigned n ≡ None
   pub struct : assigned s ≡ None
   pub array : assigned (row s) ≡ None
+
+-- ---- what may be given
+
+pub record GivenValues : Type 0 where
+  pub number : may_be_given (exact U64) (Value (Exact U8)) ≡ true
+  pub same : may_be_given (PointerTo false point) (Pointer false point) ≡ true
+  pub gained : may_be_given (PointerTo false point) (Pointer true point) ≡ true
+  pub lost : may_be_given (PointerTo true point) (Pointer false point) ≡ false
+  pub other_struct : may_be_given (PointerTo false point) (Pointer false (base.Struct (codes "iv_Q"))) ≡ false
+  pub other_scalar : may_be_given (PointerTo false (base.Scalar (Exact U8))) (Pointer false (base.Scalar (Exact U16))) ≡ false
+  pub no_number : may_be_given (PointerTo false point) (Value (Exact U8)) ≡ false
+  pub no_pointer : may_be_given (exact U8) (Pointer false point) ≡ false

@@ -1,10 +1,10 @@
 ghost use Rattle.c_ast.specs.ConversionLaws.{HeldNumbersStay, ConvertedNumbersAreHeld, ConversionExamples, ConstantExamples};
 ghost use Rattle.c_ast.specs.TargetLaws.{TargetsAreSound, PromotionKeepsValues, SignedCommonKeepsValues};
-ghost use Rattle.c_ast.specs.TargetExamples.{PromotionExamples, CommonExamples, NarrowConstantExamples, NarrowIsSound};
+ghost use Rattle.c_ast.specs.TargetExamples.{PromotionExamples, CommonExamples, NarrowConstantExamples, NarrowIsSound, LowestByteFirst};
 ghost use Rattle.c_ast.specs.Examples.{Exported};
 ghost use Rattle.c_ast.specs.LayoutLaws.{ScalarsInOrder, TypesHaveAlignments};
 ghost use Rattle.c_ast.specs.LayoutExamples.{PaddedExamples, NestedExamples, AlignedExamples, NamedExamples};
-ghost use Rattle.c_ast.specs.StaticTypesExamples.{NumberTypes, NoTypes, PlaceTypes, NoPlaces, AssignedPlaces};
+ghost use Rattle.c_ast.specs.StaticTypesExamples.{NumberTypes, NoTypes, PlaceTypes, NoPlaces, GivenValues, AssignedPlaces};
 
 /// A conversion keeps a number that the type holds, and gives numbers that it holds.
 pub fn conversion_laws()
@@ -26,11 +26,12 @@ pub fn target_laws()
     ensures narrow { NarrowIsSound }
 {}
 
-/// To which types the integer promotions and the usual arithmetic conversions go.
+/// To which types the integer promotions and the usual arithmetic conversions go, and which byte is first.
 pub fn type_examples()
     ensures promotion { PromotionExamples }
     ensures common { CommonExamples }
     ensures constants { NarrowConstantExamples }
+    ensures byte_order { LowestByteFirst }
 {}
 
 /// What a unit lets the outside call.
@@ -54,11 +55,12 @@ pub fn layout_examples()
     ensures named { NamedExamples }
 {}
 
-/// Which types expressions and places have, which have none, and what may be assigned to.
+/// Which types expressions and places have, which have none, what may be given, and what may be assigned to.
 pub fn static_type_examples()
     ensures numbers { NumberTypes }
     ensures none { NoTypes }
     ensures places { PlaceTypes }
     ensures no_places { NoPlaces }
+    ensures given { GivenValues }
     ensures assigned { AssignedPlaces }
 {}

@@ -25,7 +25,8 @@ use Rattle.c_ast.proofs.Promotions.{targets_are_sound}
 use Rattle.c_meaning.specs.Values.{Trouble, Undefined, Stuck, CValue, Num, Ptr, held_type, is_true, on_ok, typed, as_kind, as_assigned, of_type}
 use Rattle.c_meaning.specs.Operators.{unary, binary}
 use Rattle.c_meaning.specs.State.{Program, Slot, Holding, Naming, CState}
-use Rattle.c_meaning.specs.Scopes.{named, value_in, slot_entity, local_entity, file_entity}
+use Rattle.c_ast.specs.Names.{named}
+use Rattle.c_meaning.specs.Scopes.{value_in, slot_entity, local_entity, file_entity}
 use Rattle.c_meaning.specs.Expressions.{static_type, held, as_common, eval}
 use Rattle.c_meaning.specs.ExpressionLaws.{SlotIsTyped, NamesAreTyped, HasItsType, ValuesHaveTheirTypes, IsOfNumbers, HoldsValue, HasNoObjects, TypedNumbersAreNotStuck}
 use Rattle.c_meaning.proofs.Operands.{Fine, Comes, some_is, fine_comes, on_ok_comes, unary_comes, binary_comes}

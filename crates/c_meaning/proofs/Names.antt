@@ -15,7 +15,8 @@ use Rattle.c_ast.specs.declared.Target.{Target}
 use Rattle.c_ast.specs.Syntax.{Name, Read, Var}
 use Rattle.c_meaning.specs.Values.{Trouble, CValue, Num, Ptr, held_type, on_ok, typed, as_assigned, as_arguments}
 use Rattle.c_meaning.specs.State.{Program, Slot, Holding, Naming, CState}
-use Rattle.c_meaning.specs.Scopes.{named, value_in, name_value, slot_entity, local_entity, file_entity, declarations}
+use Rattle.c_ast.specs.Names.{named}
+use Rattle.c_meaning.specs.Scopes.{value_in, name_value, slot_entity, local_entity, file_entity, declarations}
 use Rattle.c_meaning.specs.Expressions.{static_type, held, eval}
 use Rattle.c_meaning.specs.Laws.{NamesAreAsDeclared}
 use Rattle.c_meaning.specs.Meant.{Declarations, and_name, of_params}

@@ -43,7 +43,8 @@ use Rattle.c_meaning.specs.ExpressionLaws.{IsTyped, SlotIsTyped, HoldsValue}
 use Rattle.c_meaning.specs.Calls.{given, CallResult, Nothing, Missing, Gave, Calls, no_functions, pieces_of, reply_shape, reply_value, outside_with, outside, stop_at, stop_call, extern_call, call_found, call}
 use Rattle.c_meaning.specs.Statements.{with_value, with_truth, call_step, used, declaration, exec, exec_all}
 use Rattle.c_meaning.specs.Runs.{function_value, param_types, bound, function_body, function_call, with_function, entry_result, entry_values, entered, entry_among, entry, first_state_of, run_from}
-use Rattle.c_meaning.specs.Meant.{IsScalar, IsResult, Declarations, and_name, behind, of_params, Signature, stop_signature, extern_signature, function_signature, earlier_signature, or_earlier, signature_of, IsNumber, AreGiven, IsCall, IsMeant, AreMeant, FunctionIsMeant, FunctionsAreMeant, ExternIsMeant, UnitIsMeant}
+use Rattle.c_ast.specs.Signatures.{IsScalar, IsResult, Signature, stop_signature, extern_signature, function_signature}
+use Rattle.c_meaning.specs.Meant.{Declarations, and_name, behind, of_params, earlier_signature, or_earlier, signature_of, IsNumber, AreGiven, IsCall, IsMeant, AreMeant, FunctionIsMeant, FunctionsAreMeant, ExternIsMeant, UnitIsMeant}
 use Rattle.c_meaning.specs.Laws.{no_site, watched, IsNotStuck, MeantUnitsAreNeverStuck}
 use Rattle.c_meaning.proofs.Operands.{Fine, Comes}
 use Rattle.c_meaning.proofs.Expressions.{as_kind_fine, typed_comes}

@@ -3,8 +3,6 @@
 use Rattle.std.specs.Prelude.{◌≡◌, ⊤, List, [], ◌∷◌, map, Bool, true, false, IsTrue, Option, Some, None, if◌then◌else◌, All}
 use Rattle.std.specs.List.{find}
 use Rattle.iv_words.specs.Words.{same_word}
-use Rattle.iv_words.specs.declared.IntKind.TheVariants.{U32}
-use Rattle.c_ast.specs.declared.CScalar.TheVariants.{Int}
 use Rattle.c_ast.specs.declared.CKind.{CKind}
 use Rattle.c_ast.specs.declared.CKind.TheVariants.{Scalar}
 use Rattle.c_ast.specs.declared.CParam.{CParam}
@@ -13,22 +11,11 @@ use Rattle.c_ast.specs.declared.CType.TheVariants.{Void, Value, Pointer}
 use Rattle.c_ast.specs.declared.CExtern.{CExtern}
 use Rattle.c_ast.specs.declared.Target.{Target}
 use Rattle.c_ast.specs.Names.{stop_name}
+use Rattle.c_ast.specs.Signatures.{IsScalar, IsResult, Signature, stop_signature, extern_signature, function_signature}
 use Rattle.c_ast.specs.StaticTypes.{Arithmetic, Entity, ConstName, declared, expr_type}
 use Rattle.c_ast.specs.Syntax.{Name, Expr, FunctionCall, Stmt, Const, ConstCall, Object, Assign, If, IfElse, Forever, Break, Return, Block, Call, Stmts, Nil, Cons, Function, TranslationUnit}
 use Rattle.c_ast.specs.Targets.{table_of}
 use Rattle.c_meaning.specs.ExpressionLaws.{IsOfNumbers}
-
--- ---- types
-
-abbrev pub IsScalar : CType → Type 0
-IsScalar (Value s) = ⊤
-IsScalar Void = ⊥
-IsScalar (Pointer constant base) = ⊥
-
-abbrev pub IsResult : CType → Type 0
-IsResult (Value s) = ⊤
-IsResult Void = ⊤
-IsResult (Pointer constant base) = ⊥
 
 -- ---- names
 
@@ -50,20 +37,6 @@ behind _ scope = scope
 abbrev pub of_params : List CParam → Declarations
 of_params [] = []
 of_params (x ∷ xs) = and_name x.name x.ty (of_params xs)
-
--- what a call may reach: the types of its parameters and its result
-pub record Signature : Type 0 where
-  pub params : List CType
-  pub result : CType
-
-abbrev pub stop_signature : Signature
-stop_signature = record { params = Value (Int U32) ∷ []; result = Void }
-
-abbrev pub extern_signature : CExtern → Signature
-extern_signature x = record { params = x.params; result = x.result }
-
-abbrev pub function_signature : Function → Signature
-function_signature f = record { params = map (λ x. x.ty) f.params; result = f.result }
 
 -- the latest function of the name, of those that came before
 abbrev pub earlier_signature : List Function → Name → Option Signature

@@ -1,22 +1,17 @@
 -- The names that a state has in scope, and as what they were declared.
-use Rattle.std.specs.Prelude.{List, [], ◌∷◌, map, ◌++◌, false, Option, Some, None, if◌then◌else◌}
-use Rattle.iv_words.specs.Words.{same_word}
+use Rattle.std.specs.Prelude.{List, map, ◌++◌, false, Option, Some, None}
+use Rattle.c_ast.specs.Names.{named}
 use Rattle.c_ast.specs.Syntax.{Name, FileObject}
 use Rattle.c_ast.specs.StaticTypes.{Entity, ConstName, ObjectName, Scope, declared}
 use Rattle.c_meaning.specs.Values.{CValue, held_type}
 use Rattle.c_meaning.specs.State.{Program, Slot, Holding, Naming, CState}
-
--- what the table has for a name: the latest of that name (6.2.1)
-abbrev pub named : {A : Type 0} → List (Name × A) → Name → Option A
-named [] x = None
-named (n ∷ names) x = if same_word n.0 x then Some n.1 else named names x
 
 abbrev pub value_in : Option Slot → Option CValue
 value_in None = None
 value_in (Some (Holding v)) = Some v
 value_in (Some (Naming object base)) = None
 
--- the value that a name holds in a state
+-- the value that a name holds in a state, whose latest declaration of the name counts (6.2.1)
 abbrev pub name_value : CState → Name → Option CValue
 name_value s x = value_in (named s.own x)
 

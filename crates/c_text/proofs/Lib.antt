@@ -1,6 +1,8 @@
 pub mod Nesting
 pub mod Plain
 pub mod Shallow
-pub mod Unique
-pub mod WordTexts
+pub mod FirstFault
+pub mod FirstForms
 pub mod Words
+pub mod WordTexts
+pub mod Unique

@@ -19,8 +19,11 @@ use Rattle.c_ast.specs.declared.Suffix.{Suffix}
 use Rattle.c_ast.specs.declared.Suffix.TheVariants.{Plain, U, Ll, Ull}
 use Rattle.c_ast.specs.Syntax.{Expr, Number, Read, Address, Unary, Binary, Cast, Cond}
 use Rattle.c_text.specs.Identifiers.{is_letter, is_digit, is_identifier_byte}
-use Rattle.c_text.specs.Spelling.{type_text, suffix_text, listed, expr_text, params_text}
-use Rattle.c_text.specs.Subset.{IsScalar, IsResult, ExprInSubset}
+use Rattle.c_text.specs.TypeText.{type_text, listed}
+use Rattle.c_text.specs.ExpressionText.{suffix_text, expr_text}
+use Rattle.c_text.specs.Spelling.{params_text}
+use Rattle.c_ast.specs.Signatures.{IsScalar, IsResult}
+use Rattle.c_text.specs.FirstForms.{FirstExpr}
 use Rattle.c_text.proofs.Words.{Stops, IsRun, cut_word, map_cut}
 
 -- ---- constants
@@ -80,7 +83,7 @@ constant_one v w suffix other sv sw e =
     let same : suffix ≡ other = sym (suffix_back suffix) ∙ ap suffix_of cut.1 ∙ suffix_back other in
     ap (λ n. Number n suffix) (decimal_injective v w sv sw cut.0) ∙ ap (λ q. Number w q) same
 
-pub expr_run : (e : Expr) → ExprInSubset e → IsRun (expr_text e)
+pub expr_run : (e : Expr) → FirstExpr e → IsRun (expr_text e)
 expr_run (Number v suffix) small = constant_run v suffix small
 expr_run (Read p) h = absurd h
 expr_run (Address p) h = absurd h
@@ -89,7 +92,7 @@ expr_run (Binary op a b) h = absurd h
 expr_run (Cast t e) h = absurd h
 expr_run (Cond c a b) h = absurd h
 
-pub expr_one : (e f : Expr) → ExprInSubset e → ExprInSubset f → expr_text e ≡ expr_text f → e ≡ f
+pub expr_one : (e f : Expr) → FirstExpr e → FirstExpr f → expr_text e ≡ expr_text f → e ≡ f
 expr_one (Number v suffix) (Number w other) sv sw same = constant_one v w suffix other sv sw same
 expr_one (Number v suffix) (Read p) sv h same = absurd h
 expr_one (Number v suffix) (Address p) sv h same = absurd h
@@ -104,9 +107,9 @@ expr_one (Binary op a b) f h g same = absurd h
 expr_one (Cast t e) f h g same = absurd h
 expr_one (Cond c a b) f h g same = absurd h
 
-pub runs_of : (es : List Expr) → All ExprInSubset es → All IsRun (map expr_text es)
+pub runs_of : (es : List Expr) → All FirstExpr es → All IsRun (map expr_text es)
 runs_of [] h = All-nil IsRun
-runs_of (e ∷ es) h = All-cons IsRun (expr_text e) (map expr_text es) (expr_run e (All-head ExprInSubset e es h)) (runs_of es (All-tail ExprInSubset e es h))
+runs_of (e ∷ es) h = All-cons IsRun (expr_text e) (map expr_text es) (expr_run e (All-head FirstExpr e es h)) (runs_of es (All-tail FirstExpr e es h))
 
 -- ---- types
 
@@ -174,7 +177,7 @@ pub param_runs : (ts : List CType) → All IsScalar ts → All IsRun (param_word
 param_runs [] h = All-cons IsRun (codes "void") [] (run_of (codes "void") (lit< tt) refl) (All-nil IsRun)
 param_runs (t ∷ ts) h = type_runs (t ∷ ts) h
 
-pub params_then : (ts : List CType) (r : List ℕ) → params_text ts ++ r ≡ 40 ∷ (listed (param_words ts) ++ (41 ∷ r))
+pub params_then : (ts : List CType) (r : List ℕ) → params_text (map type_text ts) ++ r ≡ 40 ∷ (listed (param_words ts) ++ (41 ∷ r))
 params_then [] r = refl
 params_then (t ∷ ts) r = ap (λ x. 40 ∷ x) (append_assoc (listed (map type_text (t ∷ ts))) (codes ")") r)
 

@@ -5,7 +5,7 @@ use Rattle.std.specs.List.{list_all}
 use Rattle.std.proofs.lemmas.Bool.{and_parts}
 use Rattle.std.proofs.lemmas.List.Elements.{All-head, All-tail}
 use Rattle.c_text.specs.Identifiers.{is_identifier_byte}
-use Rattle.c_text.specs.Spelling.{listed}
+use Rattle.c_text.specs.TypeText.{listed}
 
 -- a text that does not go on with a byte of the word
 abbrev pub Stops : (ℕ → Bool) → List ℕ → Type 0

@@ -1,16 +1,22 @@
 -- What the laws of this crate say.
-use Rattle.std.specs.Prelude.{◌≡◌, ℕ, List}
+use Rattle.std.specs.Prelude.{◌≡◌, ◌≤◌, ℕ, List}
 use Rattle.c_ast.specs.declared.types.Target.{Target}
 use Rattle.c_ast.specs.Syntax.{TranslationUnit}
 use Rattle.c_text.specs.Spelling.{unit_text}
 use Rattle.c_text.specs.Subset.{InSubset}
+use Rattle.c_text.specs.FirstForms.{FirstForms}
+use Rattle.c_text.specs.Nested.{nested}
 use Rattle.c_text.specs.Right.{Right}
-use Rattle.c_text.specs.ReadsBack.{Spells, ReadsBack}
+use Rattle.c_text.specs.ReadsBack.{Spells, ReadsBack, IsShallow}
 
--- so far no text of a unit nests deeper than two brackets, so nothing more is asked of a unit
+-- a text nests at most as deep as its unit
+abbrev pub UnitsNestAsTheyAre : Type 0
+UnitsNestAsTheyAre = (u : TranslationUnit) → InSubset u → nested u ≤ 300 → IsShallow (unit_text u)
+
+-- a unit of right names and types that does not nest too deep reads back from its text
 abbrev pub RightUnitsReadBack : Type 0
-RightUnitsReadBack = (u : TranslationUnit) (target : Target) → InSubset u → Right target u → ReadsBack u (unit_text u) target
+RightUnitsReadBack = (u : TranslationUnit) (target : Target) → InSubset u → Right target u → nested u ≤ 300 → ReadsBack u (unit_text u) target
 
--- the bytes that spell a unit spell no other
-abbrev pub TextsTellUnitsApart : Type 0
-TextsTellUnitsApart = (u v : TranslationUnit) (bytes : List ℕ) → Spells u bytes → Spells v bytes → u ≡ v
+-- of units of the first forms no two are spelled by the same bytes
+abbrev pub FirstTextsTellUnitsApart : Type 0
+FirstTextsTellUnitsApart = (u v : TranslationUnit) (bytes : List ℕ) → FirstForms u → FirstForms v → Spells u bytes → Spells v bytes → u ≡ v

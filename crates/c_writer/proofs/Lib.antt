@@ -1,2 +1,3 @@
-pub mod Lists
 pub mod Stages
+pub mod Lists
+pub mod Depths

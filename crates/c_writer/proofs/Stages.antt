@@ -1,10 +1,11 @@
 -- One text after another on their way into a sink.
 use Rattle.std.proofs.Common.{◌≡◌, refl, sym, ◌∙◌, ap, subst, ℕ, ◌+◌, ◌≤◌, Bool, true, false, List, [], ◌++◌, length, append_assoc, length-append, inl, inr, arith}
-use Rattle.std.specs.Prelude.{Result, Ok, Err, is_err, OnOk, OnErr}
+use Rattle.std.specs.Prelude.{◌∷◌, codes, Result, Ok, Err, is_err, OnOk, OnErr}
 use Rattle.std.proofs.lemmas.List.{append-nil}
 use Rattle.iv_base.specs.Counts.{capped, last, Rose}
 use Rattle.iv_base.specs.Sinks.{grown, GrewByPrefix}
 use Rattle.iv_base.proofs.Prefixes.{grown_grown, part_of_first}
+use Rattle.c_text.specs.TypeText.{line}
 use Rattle.c_writer.specs.Stages.{Stage, WentOn, Refused, LeftAlone, Puts}
 
 -- what was added by both, and what waits
@@ -81,6 +82,10 @@ then {s} {m} {e} {a} {b} first second = record {
 -- the same text in other words
 pub as_text : {s e : Stage} {a b : List ℕ} → a ≡ b → Puts s e a → Puts s e b
 as_text {s} {e} same puts = subst (Puts s e) same puts
+
+-- a text and the end of its line
+pub ended : {s m e : Stage} {a : List ℕ} → Puts s m a → Puts m e (line (codes ";")) → Puts s e (line (a ++ codes ";"))
+ended {s} {m} {e} {a} first last = as_text (sym (append_assoc a (codes ";") (10 ∷ []))) (then first last)
 
 -- what an answer says once nothing waits any more
 pub record Arrived {T E : Type 0} (before now : Stage) (text : List ℕ) (answer : Result T E) : Type 0 where

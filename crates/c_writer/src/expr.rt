@@ -1,13 +1,14 @@
-//! Expressions and calls.
+//! Expressions, places and calls.
 
-ghost use Rattle.std.specs.Prelude.{◌++◌, codes, decimal, map};
-ghost use Rattle.c_ast.specs.View.{expr_of, call_of};
-ghost use Rattle.c_text.specs.Spelling.{suffix_text, expr_text, listed, call_text, texts};
+ghost use Rattle.std.specs.Prelude.{◌≡◌, ◌++◌, codes, decimal, map};
+ghost use Rattle.c_ast.specs.View.{expr_of, place_of, call_of};
+ghost use Rattle.c_text.specs.TypeText.{type_text, listed, texts};
+ghost use Rattle.c_text.specs.ExpressionText.{suffix_text, unary_text, binary_text, expr_text, place_text, call_text};
 ghost use Rattle.c_writer.specs.Stages.{Puts};
 
 use crate::pieces::Pieces;
-use crate::types::suffix_name;
-use c_ast::{CCall, CExpr, Suffix};
+use crate::types::put_type;
+use c_ast::{CBinary, CCall, CExpr, CPlace, CType, CUnary, Suffix};
 use itoa::Buffer;
 
 /// A decimal constant and its suffix.
@@ -19,18 +20,135 @@ pub fn put_number<P: Pieces>(value: u64, suffix: Suffix, out: &mut P)
     out.put(suffix_name(suffix));
 }
 
-/// So far constants alone have a text.
+/// The letters after a constant that name its type.
+fn suffix_name(suffix: Suffix) -> &'static [u8]
+    ensures { result.now ≡ suffix_text suffix }
+{
+    match suffix {
+        Suffix::Plain => b"",
+        Suffix::U => b"u",
+        Suffix::Ll => b"ll",
+        Suffix::Ull => b"ull",
+    }
+}
+
+fn unary_name(op: CUnary) -> &'static [u8]
+    ensures { result.now ≡ unary_text op }
+{
+    match op {
+        CUnary::Neg => b"-",
+        CUnary::Flip => b"~",
+        CUnary::Not => b"!",
+    }
+}
+
+fn binary_name(op: CBinary) -> &'static [u8]
+    ensures { result.now ≡ binary_text op }
+{
+    match op {
+        CBinary::Add => b"+",
+        CBinary::Sub => b"-",
+        CBinary::Mul => b"*",
+        CBinary::Div => b"/",
+        CBinary::Rem => b"%",
+        CBinary::And => b"&",
+        CBinary::Or => b"|",
+        CBinary::Xor => b"^",
+        CBinary::Shl => b"<<",
+        CBinary::Shr => b">>",
+        CBinary::Eq => b"==",
+        CBinary::Ne => b"!=",
+        CBinary::Lt => b"<",
+        CBinary::Le => b"<=",
+        CBinary::Gt => b">",
+        CBinary::Ge => b">=",
+        CBinary::AndAlso => b"&&",
+        CBinary::OrElse => b"||",
+    }
+}
+
+/// A cast up to what is cast.
+fn put_cast<P: Pieces>(ty: &CType, out: &mut P)
+    ensures { Puts (P.stage out.old) (P.stage out.new) (codes "((" ++ type_text ty.now ++ codes ")") }
+{
+    out.put(b"((");
+    put_type(ty, out);
+    out.put(b")");
+}
+
+/// An operator between its operands, with a blank on both sides.
+fn put_operator<P: Pieces>(op: CBinary, out: &mut P)
+    ensures { Puts (P.stage out.old) (P.stage out.new) (codes " " ++ binary_text op ++ codes " ") }
+{
+    out.put(b" ");
+    out.put(binary_name(op));
+    out.put(b" ");
+}
+
+#[cycle(puts)]
 pub fn put_expr<P: Pieces>(e: &CExpr, out: &mut P)
     ensures { Puts (P.stage out.old) (P.stage out.new) (expr_text (expr_of e.now)) }
 {
     match e {
         CExpr::Number(value, suffix) => put_number(*value, *suffix, out),
-        CExpr::Read(_)
-        | CExpr::Address(_)
-        | CExpr::Unary(_, _)
-        | CExpr::Binary(_, _, _)
-        | CExpr::Cast(_, _)
-        | CExpr::Cond(_, _, _) => {}
+        CExpr::Read(place) => put_place(place, out),
+        CExpr::Address(place) => {
+            out.put(b"(&");
+            put_place(place, out);
+            out.put(b")");
+        }
+        CExpr::Unary(op, e) => {
+            out.put(b"(");
+            out.put(unary_name(*op));
+            put_expr(e.get(), out);
+            out.put(b")");
+        }
+        CExpr::Binary(op, left, right) => {
+            out.put(b"(");
+            put_expr(left.get(), out);
+            put_operator(*op, out);
+            put_expr(right.get(), out);
+            out.put(b")");
+        }
+        CExpr::Cast(ty, e) => {
+            put_cast(ty, out);
+            put_expr(e.get(), out);
+            out.put(b")");
+        }
+        CExpr::Cond(test, first, second) => {
+            out.put(b"(");
+            put_expr(test.get(), out);
+            out.put(b" ? ");
+            put_expr(first.get(), out);
+            out.put(b" : ");
+            put_expr(second.get(), out);
+            out.put(b")");
+        }
+    }
+}
+
+#[cycle(puts)]
+pub fn put_place<P: Pieces>(place: &CPlace, out: &mut P)
+    ensures { Puts (P.stage out.old) (P.stage out.new) (place_text (place_of place.now)) }
+{
+    match place {
+        CPlace::Var(name) => out.put(name.as_slice()),
+        CPlace::At(pointer) => {
+            out.put(b"(*");
+            put_expr(pointer.get(), out);
+            out.put(b")");
+        }
+        CPlace::Member(place, member) => {
+            put_place(place.get(), out);
+            out.put(b".");
+            out.put(member.as_slice());
+        }
+        CPlace::Element(place, index) => {
+            put_place(place.get(), out);
+            out.put(b"[");
+            put_expr(index.get(), out);
+            out.put(b"]");
+        }
     }
 }
 

@@ -3,9 +3,11 @@
 //! One small function for each form puts its pieces, and a buffer hands them on to the sink as few large ones.
 #![tactic(auto)]
 
+mod braces;
 mod decl;
 mod expr;
 mod gathered;
+mod init;
 mod pending;
 mod pieces;
 mod stmt;
@@ -14,4 +16,4 @@ mod tests;
 mod types;
 mod unit;
 
-pub use unit::write_unit;
+pub use unit::{write_function, write_head, write_unit};

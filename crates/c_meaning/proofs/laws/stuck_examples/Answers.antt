@@ -9,7 +9,8 @@ use Rattle.c_ast.specs.declared.CParam.{CParam}
 use Rattle.c_ast.specs.declared.CType.TheVariants.{Void}
 use Rattle.c_ast.specs.declared.CExtern.{CExtern}
 use Rattle.c_meaning.specs.Examples.{byte, takes}
-use Rattle.c_meaning.specs.Meant.{IsScalar, ExternIsMeant}
+use Rattle.c_ast.specs.Signatures.{IsScalar}
+use Rattle.c_meaning.specs.Meant.{ExternIsMeant}
 use Rattle.c_meaning.proofs.laws.stuck_examples.Goals as goal
 
 pub returns-clause-meant : goal.returns-clause-meant

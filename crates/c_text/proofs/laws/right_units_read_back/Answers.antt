@@ -1,5 +1,8 @@
-use Rattle.c_text.proofs.Shallow.{right_reads_back}
+use Rattle.c_text.proofs.Shallow.{unit_is_shallow, right_reads_back}
 use Rattle.c_text.proofs.laws.right_units_read_back.Goals as goal
 
-pub returns : goal.returns
-returns c = right_reads_back
+pub returns-clause-nested : goal.returns-clause-nested
+returns-clause-nested c = unit_is_shallow
+
+pub returns-clause-back : goal.returns-clause-back
+returns-clause-back c = right_reads_back

@@ -1,7 +1,7 @@
-use Rattle.std.proofs.Common.{sym, ◌∙◌}
-use Rattle.c_writer.proofs.Lists.{params_are}
-use Rattle.c_writer.proofs.Stages.{then, as_text}
+use Rattle.c_text.specs.Spelling.{param_text}
+use Rattle.c_writer.proofs.Lists.{params_put}
+use Rattle.c_writer.proofs.Stages.{then}
 use Rattle.c_writer.proofs.decl.put_params.Goals as goal
 
-pub returns-else-is_empty : goal.returns-else-is_empty
-returns-else-is_empty g c = as_text (params_are c.args.types.now (sym c.is_empty.ensures ∙ c.if-is_empty.false)) (then (then c.put-else-is_empty.ensures c.put_types.ensures) c.put-else-is_empty-2.ensures)
+pub returns-in-Some : goal.returns-in-Some
+returns-in-Some g c = params_put param_text c.args.params.now c.in-Some.first.now c.in-Some.rest.now (c.in-Some.ensures.cases.0) (then (then (then c.put-in-Some.ensures (c.put_const.ensures)) (c.put_further_params.ensures)) (c.put-in-Some-2.ensures))

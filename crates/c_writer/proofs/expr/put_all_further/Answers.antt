@@ -1,7 +1,7 @@
 use Rattle.std.proofs.Common.{◌++◌}
 use Rattle.std.specs.Prelude.{codes}
 use Rattle.c_ast.specs.View.{expr_of}
-use Rattle.c_text.specs.Spelling.{expr_text}
+use Rattle.c_text.specs.ExpressionText.{expr_text}
 use Rattle.c_writer.proofs.Lists.{one_more}
 use Rattle.c_writer.proofs.expr.put_all_further.Goals as goal
 

@@ -1,7 +1,8 @@
 use Rattle.std.proofs.Common.{take, ◌++◌}
 use Rattle.std.specs.Prelude.{map, codes}
 use Rattle.c_ast.specs.View.{expr_of}
-use Rattle.c_text.specs.Spelling.{expr_text, texts}
+use Rattle.c_text.specs.TypeText.{texts}
+use Rattle.c_text.specs.ExpressionText.{expr_text}
 use Rattle.c_writer.specs.Stages.{Puts}
 use Rattle.c_writer.proofs.expr.put_all_further.Given as goal
 

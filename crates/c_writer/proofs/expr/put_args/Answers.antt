@@ -1,7 +1,8 @@
 use Rattle.std.proofs.Common.{ap, sym}
 use Rattle.std.proofs.lemmas.Simd.{map-map}
 use Rattle.c_ast.specs.View.{expr_of}
-use Rattle.c_text.specs.Spelling.{expr_text, listed}
+use Rattle.c_text.specs.TypeText.{listed}
+use Rattle.c_text.specs.ExpressionText.{expr_text}
 use Rattle.c_writer.proofs.Lists.{listed_put}
 use Rattle.c_writer.proofs.Stages.{as_text}
 use Rattle.c_writer.proofs.expr.put_args.Goals as goal

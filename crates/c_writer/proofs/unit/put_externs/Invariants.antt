@@ -1,6 +1,7 @@
-use Rattle.std.proofs.Common.{take}
-use Rattle.std.specs.Prelude.{map}
-use Rattle.c_text.specs.Spelling.{extern_text, texts}
+use Rattle.std.proofs.Common.{take, ◌++◌}
+use Rattle.std.specs.Prelude.{map, codes}
+use Rattle.c_text.specs.TypeText.{texts}
+use Rattle.c_text.specs.Spelling.{extern_text}
 use Rattle.c_writer.specs.Stages.{Puts}
 use Rattle.c_writer.proofs.unit.put_externs.Given as goal
 

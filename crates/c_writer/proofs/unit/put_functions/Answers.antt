@@ -1,9 +1,11 @@
-use Rattle.std.proofs.Common.{ap, sym}
+use Rattle.std.proofs.Common.{ap, sym, ◌++◌}
+use Rattle.std.specs.Prelude.{codes}
 use Rattle.std.proofs.lemmas.Simd.{map-map}
+use Rattle.c_text.specs.TypeText.{texts}
 use Rattle.c_ast.specs.View.{function_of}
-use Rattle.c_text.specs.Spelling.{function_text, texts}
+use Rattle.c_text.specs.Spelling.{function_text}
 use Rattle.c_writer.proofs.Lists.{one_more, all_put}
-use Rattle.c_writer.proofs.Stages.{as_text}
+use Rattle.c_writer.proofs.Stages.{then, as_text}
 use Rattle.c_writer.proofs.unit.put_functions.Goals as goal
 
 pub loop-f-preserved : goal.loop-f-preserved

@@ -1,7 +1,8 @@
-use Rattle.std.proofs.Common.{take}
-use Rattle.std.specs.Prelude.{map}
+use Rattle.std.proofs.Common.{take, ◌++◌}
+use Rattle.std.specs.Prelude.{map, codes}
+use Rattle.c_text.specs.TypeText.{texts}
 use Rattle.c_ast.specs.View.{function_of}
-use Rattle.c_text.specs.Spelling.{function_text, texts}
+use Rattle.c_text.specs.Spelling.{function_text}
 use Rattle.c_writer.specs.Stages.{Puts}
 use Rattle.c_writer.proofs.unit.put_functions.Given as goal
 

@@ -1,8 +1,0 @@
-use Rattle.std.proofs.Common.{◌++◌}
-use Rattle.std.specs.Prelude.{codes}
-use Rattle.c_text.specs.Spelling.{type_text}
-use Rattle.c_writer.proofs.Lists.{one_more}
-use Rattle.c_writer.proofs.decl.put_all_further.Goals as goal
-
-pub loop-ty-preserved : goal.loop-ty-preserved
-loop-ty-preserved g c = one_more (λ t. codes ", " ++ type_text t) c.args.types.now c.loop-ty.ty-index c.ty-item.result c.loop-ty-test.true c.ty-item.is c.loop-ty.invariant c.put_further.ensures

@@ -1,5 +1,0 @@
-use Rattle.c_writer.proofs.Stages.{then}
-use Rattle.c_writer.proofs.decl.put_function_head.Goals as goal
-
-pub returns : goal.returns
-returns g c = then (then (then (then (then (rw c.storage_name.ensures at c.put.ensures) c.put_type.ensures) c.put-2.ensures) (rw c.as_slice.ensures at c.put-3.ensures)) c.put-4.ensures) c.put-5.ensures

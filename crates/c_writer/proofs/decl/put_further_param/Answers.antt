@@ -1,0 +1,5 @@
+use Rattle.c_writer.proofs.Stages.{then}
+use Rattle.c_writer.proofs.decl.put_further_param.Goals as goal
+
+pub returns : goal.returns
+returns g c = then c.put.ensures (c.put_const.ensures)

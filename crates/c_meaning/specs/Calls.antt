@@ -19,6 +19,7 @@ use Rattle.c_ast.specs.declared.CKind.TheVariants.{Scalar}
 use Rattle.c_ast.specs.declared.CType.{CType}
 use Rattle.c_ast.specs.declared.CType.TheVariants.{Void, Value, Pointer}
 use Rattle.c_ast.specs.declared.CExtern.{CExtern}
+use Rattle.c_ast.specs.declared.Target.{Target}
 use Rattle.c_ast.specs.Syntax.{Name}
 use Rattle.c_ast.specs.Names.{outer_name, stop_name}
 use Rattle.c_ast.specs.Exports.{plain_of}
@@ -64,18 +65,19 @@ stop_call p values = given p (as_arguments p.target (Value (Int U32) ∷ []) val
 
 -- ---- the call of an `extern`: the outside sees its arguments in the types of its parameters, and replies
 
--- the scalars of a base, from where a pointer points to
-abbrev pub pointed : Program → CBase → Address → List (ℕ × CScalar)
-pointed p b to = lay (metric_of p.target) (tree p.unit.structs b) to.offset
+module _ (t : Target) (structs : List CStruct) where
+  -- the scalars of a base, from where a pointer points to
+  abbrev pub pointed : CBase → Address → List (ℕ × CScalar)
+  pointed b to = lay (metric_of t) (tree structs b) to.offset
 
--- A number is seen, and of a pointer what is behind it: one that ended and an indeterminate scalar are none to be shown.
-abbrev pub piece_of : Program → CState → CValue → Result Piece Trouble
-piece_of p s (Num kind v) = Ok (piece.Value v)
-piece_of p s (Ptr constant b to) = on_ok (answered (read_each (memory_of p.target).read s.objects to.object (pointed p b to))) (λ cells. Ok (piece.Cells cells))
+  -- a number is seen, and of a pointer what is behind it, where each scalar there has a value
+  abbrev pub piece_of : CObjects → CValue → Result Piece Trouble
+  piece_of objects (Num kind v) = Ok (piece.Value v)
+  piece_of objects (Ptr constant b to) = on_ok (answered (read_each (memory_of t).read objects to.object (pointed b to))) (λ cells. Ok (piece.Cells cells))
 
-abbrev pub pieces_of : Program → CState → List CValue → Result (List Piece) Trouble
-pieces_of p s [] = Ok []
-pieces_of p s (v ∷ vs) = on_ok (piece_of p s v) (λ piece. on_ok (pieces_of p s vs) (λ pieces. Ok (piece ∷ pieces)))
+  abbrev pub pieces_of : CObjects → List CValue → Result (List Piece) Trouble
+  pieces_of objects [] = Ok []
+  pieces_of objects (v ∷ vs) = on_ok (piece_of objects v) (λ piece. on_ok (pieces_of objects vs) (λ pieces. Ok (piece ∷ pieces)))
 
 -- the types of the values that a reply gives: of the result, of which none is a pointer, and then of the scalars behind each pointer
 -- that is not to a const base
@@ -97,16 +99,17 @@ reply_value (Value s) [] = Err Stuck
 reply_value (Value s) (v ∷ vs) = Ok (Gave (Num (Scalar s) v), vs)
 reply_value (Pointer constant base) vs = Err Stuck
 
--- the values written behind the pointers, in order; one to an object that is const is refused (6.7.3)
-abbrev pub write_replies : Program → List CValue → List ℤ → CObjects → Result CObjects Trouble
-write_replies p [] values objects = Ok objects
-write_replies p (Num kind v ∷ vs) values objects = write_replies p vs values objects
-write_replies p (Ptr true b to ∷ vs) values objects = write_replies p vs values objects
-write_replies p (Ptr false b to ∷ vs) values objects =
-    on_ok (answered (write_each (memory_of p.target).write objects to.object (pointed p b to) values)) (write_replies p vs (drop (count (tree p.unit.structs b)) values))
+module _ (t : Target) (structs : List CStruct) where
+  -- the values written behind the pointers, in order; one to an object that is const is refused (6.7.3)
+  abbrev pub write_replies : List CValue → List ℤ → CObjects → Result CObjects Trouble
+  write_replies [] values objects = Ok objects
+  write_replies (Num kind v ∷ vs) values objects = write_replies vs values objects
+  write_replies (Ptr true b to ∷ vs) values objects = write_replies vs values objects
+  write_replies (Ptr false b to ∷ vs) values objects =
+      on_ok (answered (write_each (memory_of t).write objects to.object (pointed t structs b to) values)) (write_replies vs (drop (count (tree structs b)) values))
 
 abbrev pub reply_written : Program → List CValue → CallResult × List ℤ → Part CState CallResult
-reply_written p args reply = by_state (λ s. given p (write_replies p args reply.1 s.objects) (λ objects. change reply.0 (λ u. record u { objects = objects })))
+reply_written p args reply = by_state (λ s. given p (write_replies p.target p.unit.structs args reply.1 s.objects) (λ objects. change reply.0 (λ u. record u { objects = objects })))
 
 abbrev pub outside_with : Program → CExtern → List CValue → List Piece → Part CState CallResult
 outside_with p x args pieces =
@@ -114,7 +117,7 @@ outside_with p x args pieces =
     (λ shape. bind (import_call (seen p) (outer_name x.name) pieces (shape ++ written_shape p.unit.structs args)) (λ reply. given p (reply_value x.result reply) (reply_written p args)))
 
 abbrev pub outside : Program → CExtern → List CValue → Part CState CallResult
-outside p x args = by_state (λ s. given p (pieces_of p s args) (outside_with p x args))
+outside p x args = by_state (λ s. given p (pieces_of p.target p.unit.structs s.objects args) (outside_with p x args))
 
 abbrev pub extern_call : Program → CExtern → List CValue → Part CState CallResult
 extern_call p x values = given p (as_arguments p.target x.params values) (outside p x)

@@ -257,8 +257,7 @@ pub record NameAndConditionExamples : Type 0 where
 -- ---- being stuck
 
 pub record StuckExamples : Type 0 where
-  pub object : watched_once (blinking (Object (codes "iv_y") (base.Scalar Truth) None ∷ [])) 9 ≡ lost
-  pub shown : once (blinking (Object (codes "iv_y") (base.Scalar Truth) None ∷ [])) 9 ≡ outcome_of [] (Undefined NoValue)
+  pub shown : once (blinking (Const (codes "iv_y") byte (name (codes "iv_x")) ∷ [])) 9 ≡ outcome_of [] (Undefined NoValue)
   pub unknown : watched_once (blinking (Const (codes "iv_y") byte (name (codes "iv_x")) ∷ [])) 9 ≡ lost
   pub no_value : watched_once (calling Void [] (shows_result byte 9)) 9 ≡ lost
   pub returned_without : watched_once (calling Void (Return None ∷ []) (shows_result byte 9)) 9 ≡ lost

@@ -97,11 +97,11 @@ abbrev pub of_scalar : Target → CScalar → ℤ → Result CValue Trouble
 of_scalar t k v = if can_hold (table_of t) (Scalar k) v then Ok (Num (Scalar k) v) else Err Stuck
 
 -- the value of a place, of the exact scalar that is laid out there (6.3.2.1, 6.5)
-abbrev pub read : Program → CState → Lvalue → Result CValue Trouble
-read p s (Known v) = alive s v
-read p s (Part constant to (Leaf k)) = on_ok (answered ((memory_of p.target).read s.objects to.object (to.offset, k))) (of_scalar p.target k)
-read p s (Part constant to (Many n a)) = Err Stuck
-read p s (Part constant to (Struct k r)) = Err Stuck
+abbrev pub read : Target → CState → Lvalue → Result CValue Trouble
+read t s (Known v) = alive s v
+read t s (Part constant to (Leaf k)) = on_ok (answered ((memory_of t).read s.objects to.object (to.offset, k))) (of_scalar t k)
+read t s (Part constant to (Many n a)) = Err Stuck
+read t s (Part constant to (Struct k r)) = Err Stuck
 
 -- `&` of an object or its part, save an array (6.5.3.2)
 abbrev pub address_of : Lvalue → Result CValue Trouble
@@ -112,11 +112,11 @@ address_of (Part constant to (Struct k r)) = Ok (Ptr constant (base.Struct k) to
 
 -- A cast (6.5.4): of a number as by assignment; of a pointer to another base, `const` or not, only where such a type begins. This is
 -- stricter than 6.3.2.3, which asks for alignment.
-abbrev pub pointer_cast : Program → CState → Bool → CBase → CValue → Result CValue Trouble
-pointer_cast p s constant b (Num kind v) = Err Stuck
-pointer_cast p s constant b (Ptr c from to) = unless_refused (refuses_cast (metric_of p.target) (is_base b) s.objects to.object to.offset) (Ok (Ptr constant b to))
+abbrev pub pointer_cast : Target → CState → Bool → CBase → CValue → Result CValue Trouble
+pointer_cast t s constant b (Num kind v) = Err Stuck
+pointer_cast t s constant b (Ptr c from to) = unless_refused (refuses_cast (metric_of t) (is_base b) s.objects to.object to.offset) (Ok (Ptr constant b to))
 
-abbrev pub cast : Program → CState → CType → CValue → Result CValue Trouble
-cast p s (Value k) v = as_assigned p.target (Value k) v
-cast p s (Pointer constant b) v = pointer_cast p s constant b v
-cast p s Void v = Err Stuck
+abbrev pub cast : Target → CState → CType → CValue → Result CValue Trouble
+cast t s (Value k) v = as_assigned t (Value k) v
+cast t s (Pointer constant b) v = pointer_cast t s constant b v
+cast t s Void v = Err Stuck

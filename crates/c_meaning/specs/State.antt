@@ -10,6 +10,7 @@ use Rattle.c_memory.specs.Blocks as blocks
 use Rattle.c_memory.specs.Copies.{read_each}
 use Rattle.c_memory.specs.Objects.{is_live}
 use Rattle.c_ast.specs.declared.CBase.{CBase}
+use Rattle.c_ast.specs.declared.CStruct.{CStruct}
 use Rattle.c_ast.specs.declared.Target.{Target}
 use Rattle.c_ast.specs.Names.{outer_name}
 use Rattle.c_ast.specs.Scalars.{metric_of}
@@ -73,17 +74,18 @@ abbrev pub shown : Result (List ℤ) Fault → List ℤ
 shown (Ok values) = values
 shown (Err fault) = []
 
-abbrev pub cells_of : Program → CState → ℕ → CBase → List ℤ
-cells_of p s o b = shown (read_each (memory_of p.target).read s.objects o (lay (metric_of p.target) (tree p.unit.structs b) 0))
+module _ (t : Target) (structs : List CStruct) where
+  abbrev pub cells_of : CState → ℕ → CBase → List ℤ
+  cells_of s o b = shown (read_each (memory_of t).read s.objects o (lay (metric_of t) (tree structs b) 0))
 
--- from number o on
-abbrev pub seen_from : Program → CState → ℕ → List FileObject → List AreaCells
-seen_from p s o [] = []
-seen_from p s o (x ∷ xs) = record { name = outer_name x.name; cells = cells_of p s o x.base } ∷ seen_from p s (suc o) xs
+  -- from number o on
+  abbrev pub seen_from : CState → ℕ → List FileObject → List AreaCells
+  seen_from s o [] = []
+  seen_from s o (x ∷ xs) = record { name = outer_name x.name; cells = cells_of s o x.base } ∷ seen_from s (suc o) xs
 
 -- the objects of file scope, in order, as the outside sees them
 abbrev pub seen : Program → CState → List AreaCells
-seen p s = seen_from p s 0 p.unit.objects
+seen p s = seen_from p.target p.unit.structs s 0 p.unit.objects
 
 -- ---- names and objects come and go
 

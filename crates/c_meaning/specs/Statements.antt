@@ -7,6 +7,7 @@ use Rattle.type_trees.specs.Trees.{Leaf, Many, Struct}
 use Rattle.c_memory.specs.Initializers.{Init}
 use Rattle.c_ast.specs.declared.CBase.{CBase}
 use Rattle.c_ast.specs.declared.CType.{CType}
+use Rattle.c_ast.specs.declared.Target.{Target}
 use Rattle.c_ast.specs.Structs.{tree}
 use Rattle.c_ast.specs.Syntax.{Name, Expr, FunctionCall, Stmt, Const, ConstCall, Object, Assign, If, IfElse, Forever, Break, Return, Block, Call, Stmts, Nil, Cons}
 use Rattle.c_meaning.specs.Values.{Trouble, Undefined, Stuck, CValue, is_true, on_ok, as_assigned}
@@ -47,16 +48,16 @@ abbrev pub object_with : Program → Name → CBase → Init CValue → Part CSt
 object_with p x b values = by_state (λ s. given p (made_with p.target (tree p.unit.structs b) false s.objects values) (λ made. change Falls (declare_object x b made)))
 
 -- An assignment to the scalar at a place (6.5.16.1): what may not be written is known before the value is converted.
-abbrev pub stored : Program → CState → Lvalue → CValue → Result CObjects Trouble
-stored p s (Known u) v = Err Stuck
-stored p s (At constant to (Leaf k)) v =
-    unless_refused ((memory_of p.target).refuses s.objects to.object (to.offset, k))
-    (on_ok (as_number p.target k v) (λ n. answered ((memory_of p.target).write s.objects to.object (to.offset, k) n)))
-stored p s (At constant to (Many n a)) v = Err Stuck
-stored p s (At constant to (Struct k r)) v = Err Stuck
+abbrev pub stored : Target → CState → Lvalue → CValue → Result CObjects Trouble
+stored t s (Known u) v = Err Stuck
+stored t s (At constant to (Leaf k)) v =
+    unless_refused ((memory_of t).refuses s.objects to.object (to.offset, k))
+    (on_ok (as_number t k v) (λ n. answered ((memory_of t).write s.objects to.object (to.offset, k) n)))
+stored t s (At constant to (Many n a)) v = Err Stuck
+stored t s (At constant to (Struct k r)) v = Err Stuck
 
 abbrev pub assign : Program → Lvalue → CValue → Part CState (Control (Option CValue))
-assign p l v = by_state (λ s. given p (stored p s l v) (λ objects. change Falls (λ u. record u { objects = objects })))
+assign p l v = by_state (λ s. given p (stored p.target s l v) (λ objects. change Falls (λ u. record u { objects = objects })))
 
 -- Control leaves a statement as C says of `if` (6.8.4), loops (6.8.5), `break` (6.8.6.3) and `return` (6.8.6.4). The functions that a
 -- call may reach are those before its own. An assignment evaluates its place before its value.

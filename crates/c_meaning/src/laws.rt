@@ -1,5 +1,5 @@
 ghost use Rattle.c_meaning.specs.Laws.{RunLaws, NamesAreAsDeclared, WatchedRunsAreRuns, MeantUnitsAreNeverStuck};
-ghost use Rattle.c_meaning.specs.ExpressionLaws.{ValuesHaveTheirTypes, TypedNumbersAreNotStuck};
+ghost use Rattle.c_meaning.specs.ExpressionLaws.{ValuesHaveTheirTypes, PlacesHaveTheirTypes, TypedNumbersAreNotStuck};
 ghost use Rattle.c_meaning.specs.NumberExamples.{SumExamples, ProductExamples, QuotientExamples, BitExamples, LeftShiftExamples, RightShiftExamples, ComparisonExamples, UnaryExamples, PointerExamples};
 ghost use Rattle.c_meaning.specs.ValueExamples.{NameExamples, OrderExamples, CastExamples, ConditionExamples};
 ghost use Rattle.c_meaning.specs.Examples.{EmptyMain, EmptyMainNeedsAStep, NoCalls, HiddenMain, LedOnce, LedNeedsAStep, LedTwice, LedWraps, LedTruth, LedSigned, LedTooGreat, LedTooGreatLater, Replied, NotReplied, BadlyReplied, Stops, CallsEarlier, CallsEarlierInSteps, CallsItself, EndlessLoop, EndlessLed, LoopLeft, LoopLeftInSteps, Returns, Blocks, EntryValueExamples, CallValueExamples, NameAndConditionExamples, StuckExamples, MeantExample};
@@ -22,9 +22,11 @@ pub fn stuck_examples()
     ensures meant { MeantExample }
 {}
 
-/// The value of an expression is one of the type of the expression, and a typed expression of numbers is not stuck; names are as declared.
+/// The value of an expression is one of the type of the expression, and so is a place; a typed expression of numbers is not stuck;
+/// names are as declared.
 pub fn type_laws()
     ensures types { ValuesHaveTheirTypes }
+    ensures places { PlacesHaveTheirTypes }
     ensures not_stuck { TypedNumbersAreNotStuck }
     ensures declared { NamesAreAsDeclared }
 {}

@@ -1,4 +1,4 @@
-ghost use Rattle.c_meaning.specs.Laws.{RunLaws, NamesAreAsDeclared, WatchedRunsAreRuns, MeantUnitsAreNeverStuck};
+ghost use Rattle.c_meaning.specs.Laws.{RunLaws, MemoryIsLawful, ObjectsHoldValues, NamesAreAsDeclared, WatchedRunsAreRuns, MeantUnitsAreNeverStuck};
 ghost use Rattle.c_meaning.specs.ExpressionLaws.{ValuesHaveTheirTypes, PlacesHaveTheirTypes, TypedNumbersAreNotStuck};
 ghost use Rattle.c_meaning.specs.NumberExamples.{SumExamples, ProductExamples, QuotientExamples, BitExamples, LeftShiftExamples, RightShiftExamples, ComparisonExamples, UnaryExamples, PointerExamples};
 ghost use Rattle.c_meaning.specs.ValueExamples.{NameExamples, OrderExamples, CastExamples, ConditionExamples};
@@ -7,6 +7,12 @@ ghost use Rattle.c_meaning.specs.Examples.{EmptyMain, EmptyMainNeedsAStep, NoCal
 /// The outcomes of a run of C: one for each number of steps, whose events only grow, and whose end stays.
 pub fn run_laws()
     ensures { RunLaws }
+{}
+
+/// The memory that C runs on: what its operations do, and what they do to objects that hold values.
+pub fn memory_laws<W>()
+    ensures lawful { MemoryIsLawful }
+    ensures values { ObjectsHoldValues W }
 {}
 
 /// A unit of the forms that have a meaning is never stuck, where its expressions and calls are typed.

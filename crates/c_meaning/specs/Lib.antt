@@ -15,3 +15,5 @@ pub mod Laws
 pub mod NumberExamples
 pub mod ValueExamples
 pub mod Examples
+pub mod PlaceExamples
+pub mod MemoryExamples

@@ -21,14 +21,14 @@ use Rattle.c_ast.specs.Structs.{CTree}
 use Rattle.type_trees.specs.Trees.{Leaf, Many, Struct}
 use Rattle.c_memory.specs.Access.{Fault}
 use Rattle.iv_script.specs.declared.Reason.TheVariants.{Dead, Bounds}
-use Rattle.c_ast.specs.StaticTypes.{ValueType, Arithmetic, PointerTo, PlaceType, Held, Stored, Entity, ObjectName, declared, of_unary, of_binary, of_choice, of_cast, of_entity, of_read, of_address, of_pointee, of_member, of_element, member_tree, of_both}
+use Rattle.c_ast.specs.StaticTypes.{ValueType, Arithmetic, PointerTo, PlaceType, Stored, Entity, ObjectName, declared, of_unary, of_binary, of_choice, of_cast, of_entity, of_read, of_address, of_pointee, of_member, of_element, member_tree, of_both}
 use Rattle.c_ast.specs.Targets.{TargetTable, table_of, arith_bits, arith_signed, common_type}
 use Rattle.c_ast.specs.Conversions.{convert_in, can_hold, candidates, first_of_types, constant_type_in}
 use Rattle.c_ast.proofs.Conversions.{converted_held}
 use Rattle.c_ast.proofs.Promotions.{targets_are_sound}
 use Rattle.c_meaning.specs.Values.{Trouble, Undefined, Stuck, Address as Pointing, CValue, Num, Ptr, held_type, is_true, on_ok, typed, as_kind, as_assigned, of_type}
 use Rattle.c_meaning.specs.Memory.{answered, unless_refused}
-use Rattle.c_meaning.specs.Places.{Lvalue, Known, Part, object_of, file_place, or_outer, pointee, part_at, member_of, element_of, alive, of_scalar, read, address_of, pointer_cast, cast}
+use Rattle.c_meaning.specs.Places.{Lvalue, Known, Part, object_of, file_place, or_outer, pointee, part_at, member_of, element_of, of_scalar, read, address_of, pointer_cast, cast}
 use Rattle.c_meaning.specs.Operators.{unary, binary}
 use Rattle.c_meaning.specs.State.{Program, Slot, Holding, Naming, CState}
 use Rattle.c_ast.specs.Names.{named}

@@ -4,7 +4,7 @@ use Rattle.std.specs.Prelude.{if◌then◌else◌, Result, Ok, Err}
 use Rattle.iv_script.specs.declared.EntryCall.{EntryCall}
 use Rattle.iv_script.specs.declared.Reason.TheVariants.{NoValue}
 use Rattle.iv_script.specs.declared.Script.{Script}
-use Rattle.step_semantics.specs.Steps.{FailedCheck, Part, give, tick, change}
+use Rattle.step_semantics.specs.Steps.{FailedCheck, Part, tick, change}
 use Rattle.step_semantics.specs.Control.{Control, Falls, Broke, Returned}
 use Rattle.step_semantics.specs.Lawful.{Lawful}
 use Rattle.step_semantics.specs.Outcomes.{OutcomeLaws}

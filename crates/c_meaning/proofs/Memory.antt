@@ -1,5 +1,5 @@
 -- The scalars of C are such as the memory asks for: each has a byte at least, they are told apart, and hold numbers of their bits and sign.
-use Rattle.std.proofs.Common.{◌≡◌, ℕ, ◌*◌, ℤ, Bool, true, false, IsTrue, refl, ap, subst, arith}
+use Rattle.std.proofs.Common.{◌≡◌, ◌*◌, ℤ, true, false, IsTrue, refl, ap, subst, arith}
 use Rattle.std.proofs.lemmas.Int.{ints}
 use denote.Enum.Bare.{same_true}
 use Rattle.iv_words.specs.Kinds.{width, kind_bytes, is_signed, in_range_of}
@@ -14,7 +14,7 @@ use Rattle.c_ast.specs.declared.CScalar.{CScalar}
 use Rattle.c_ast.specs.declared.CScalar.TheVariants.{Truth, Int}
 use Rattle.c_ast.specs.declared.CKind.TheVariants.{Scalar}
 use Rattle.c_ast.specs.Conversions.{kind_signed, can_hold}
-use Rattle.c_ast.specs.Scalars.{scalar_bytes, metric}
+use Rattle.c_ast.specs.Scalars.{scalar_bytes}
 use Rattle.c_ast.specs.StaticTypes.{same_scalar}
 use Rattle.c_ast.specs.Targets.{TargetTable, table_of}
 use Rattle.c_ast.proofs.Scalars.{bytes_some}

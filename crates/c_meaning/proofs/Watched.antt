@@ -10,7 +10,7 @@ use Rattle.iv_script.specs.declared.End.TheVariants.{Stopped}
 use Rattle.iv_script.specs.declared.Piece.{Piece}
 use Rattle.iv_script.specs.declared.Reason.TheVariants.{NoValue}
 use Rattle.iv_script.specs.declared.Script.{Script}
-use Rattle.step_semantics.specs.Steps.{World, Progress, Finished, Halted, Exhausted, Part, give, after, bind, tick, by_state, left, block}
+use Rattle.step_semantics.specs.Steps.{World, Progress, Finished, Halted, Exhausted, Part, after, bind, tick, by_state, left, block}
 use Rattle.step_semantics.specs.Control.{Control, Falls, Broke, Returned, onward, again, turns, forever}
 use Rattle.step_semantics.specs.Frames.{in_frame}
 use Rattle.step_semantics.specs.Imports.{import_call}

@@ -1,5 +1,5 @@
 -- Calls (C99 6.5.2.2), once the values of the arguments are there and the call's step is taken.
-use Rattle.std.specs.Prelude.{ℕ, ℤ, unsigned_abs, List, [], ◌∷◌, ◌++◌, map, drop, Bool, true, false, Option, Some, None, if◌then◌else◌, Result, Ok, Err}
+use Rattle.std.specs.Prelude.{ℕ, ℤ, unsigned_abs, List, [], ◌∷◌, ◌++◌, map, drop, true, false, Option, Some, None, if◌then◌else◌, Result, Ok, Err}
 use Rattle.std.specs.List.{find}
 use Rattle.iv_words.specs.Words.{same_word}
 use Rattle.iv_words.specs.declared.IntKind.TheVariants.{U32}

@@ -1,5 +1,5 @@
 -- Initializers (C99 6.7.8): their values, from left to right; and an object made with them, once they are converted as by assignment.
-use Rattle.std.specs.Prelude.{ℕ, zero, suc, ℤ, Bool, Option, Some, None, Result, Ok, Err}
+use Rattle.std.specs.Prelude.{ℕ, zero, suc, ℤ, Bool, Result, Ok, Err}
 use Rattle.type_trees.specs.Trees.{Leaf, Many, Struct, End, Field}
 use Rattle.type_trees.specs.Values.{cells}
 use Rattle.c_memory.specs.Initializers as values

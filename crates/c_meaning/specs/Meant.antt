@@ -1,6 +1,6 @@
 -- Units without objects and pointers, whose expressions and calls are typed: numbers, const names, calls, conditions, loops, blocks,
 -- `break` and `return`. Of how names are chosen nothing is asked.
-use Rattle.std.specs.Prelude.{◌≡◌, ⊤, List, [], ◌∷◌, map, Bool, true, false, IsTrue, Option, Some, None, if◌then◌else◌, All}
+use Rattle.std.specs.Prelude.{◌≡◌, ⊤, List, [], ◌∷◌, Bool, true, false, IsTrue, Option, Some, None, if◌then◌else◌, All}
 use Rattle.std.specs.List.{find}
 use Rattle.iv_words.specs.Words.{same_word}
 use Rattle.c_ast.specs.declared.CKind.{CKind}

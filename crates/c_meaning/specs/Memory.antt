@@ -1,6 +1,6 @@
 -- The memory that C runs on: objects of C's types, whose scalars are represented as the target's table says (C99 6.2.6), and the
 -- reasons for which it refuses.
-use Rattle.std.specs.Prelude.{ℤ, pos, Bool, true, false, Option, Some, None, Result, Ok, Err}
+use Rattle.std.specs.Prelude.{ℤ, pos, Bool, false, Option, Some, None, Result, Ok, Err}
 use Rattle.iv_words.specs.Words.{same_word}
 use Rattle.iv_script.specs.declared.Reason.{Reason}
 use Rattle.iv_script.specs.declared.Reason.TheVariants as reason

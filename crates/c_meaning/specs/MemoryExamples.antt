@@ -13,13 +13,12 @@ use Rattle.c_ast.specs.declared.CScalar.TheVariants.{Int as Exact}
 use Rattle.c_ast.specs.declared.CBase.{CBase}
 use Rattle.c_ast.specs.declared.CBase.TheVariants.{Scalar}
 use Rattle.c_ast.specs.declared.CExtern.{CExtern}
-use Rattle.c_ast.specs.declared.CType.{CType}
-use Rattle.c_ast.specs.declared.CType.TheVariants.{Void, Value, Pointer}
+use Rattle.c_ast.specs.declared.CType.TheVariants.{Value, Pointer}
 use Rattle.c_ast.specs.declared.CBinary.TheVariants.{Add}
 use Rattle.c_ast.specs.Syntax.{Name, Expr, Read, Address, Binary, Cast, Var, At, Member, Init, One, Zero, Many, NoInits, MoreInits, FileObject, Stmt, Object, Assign, Return, Block, Call, Function, TranslationUnit}
 use Rattle.c_ast.specs.Examples.{rows, procedure}
 use Rattle.c_meaning.specs.Runs.{run_c}
-use Rattle.c_meaning.specs.Examples.{takes, pass, plain_call, main_script, outcome_of, led, returned}
+use Rattle.c_meaning.specs.Examples.{takes, plain_call, main_script, outcome_of, led, returned}
 use Rattle.c_meaning.specs.ValueExamples.{number, by_zero}
 use Rattle.c_meaning.specs.PlaceExamples.{byte, structs, pair, of_row, pair_place, small_const, row}
 

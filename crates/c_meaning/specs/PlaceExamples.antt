@@ -8,11 +8,11 @@ use Rattle.c_ast.specs.declared.CScalar.TheVariants.{Int as Exact}
 use Rattle.c_ast.specs.declared.CBase.{CBase}
 use Rattle.c_ast.specs.declared.CBase.TheVariants.{Scalar, Struct}
 use Rattle.c_ast.specs.declared.CStruct.{CStruct}
-use Rattle.c_ast.specs.declared.CType.TheVariants.{Value, Pointer}
+use Rattle.c_ast.specs.declared.CType.TheVariants.{Pointer}
 use Rattle.c_ast.specs.declared.CUnary.TheVariants.{Neg}
 use Rattle.c_ast.specs.Structs.{tree}
-use Rattle.c_ast.specs.Syntax.{Name, Expr, Read, Address, Unary, Binary, Cast, Place, Var, At, Member, Element, One, FileObject}
-use Rattle.c_meaning.specs.Values.{Trouble, Undefined, CValue, Num, Ptr}
+use Rattle.c_ast.specs.Syntax.{Expr, Read, Address, Unary, Cast, Place, Var, At, Member, Element, One, FileObject}
+use Rattle.c_meaning.specs.Values.{Trouble, Undefined, CValue, Ptr}
 use Rattle.c_meaning.specs.Memory.{CObjects, memory_of}
 use Rattle.c_meaning.specs.State.{Program, program_of, Holding, Naming, CState}
 use Rattle.c_meaning.specs.Expressions.{eval}

@@ -12,6 +12,7 @@ use Rattle.c_lower.specs.Refines.{Refines}
 use Rattle.c_lower.proofs.Follows.{lowered_refines}
 use Rattle.c_lower.proofs.Declared.{lowered_reads_back}
 use Rattle.c_lower.proofs.Shaped.{lowered_shape}
+use Rattle.c_lower.proofs.Spelled.{lowered_is_first}
 
 refines_on : (m : FirstModule) → Valid m → (target : Target) → Refines m (lowered m) target
 refines_on m valid T32 = lowered_refines m valid
@@ -19,6 +20,7 @@ refines_on m valid T32 = lowered_refines m valid
 pub compiled : (m : FirstModule) → Valid m → (target : Target) (u : TranslationUnit) → u ≡ lowered m → Compiled m u target
 compiled m valid target u is = subst (λ u. Compiled m u target) (sym is) (record {
   shape = lowered_shape m;
+  forms = lowered_is_first m valid;
   refines = refines_on m valid target;
   text = unit_text (lowered m);
   reads_back = lowered_reads_back m valid target;

@@ -55,21 +55,21 @@ Differs a b = a ≢ b
 
 -- ---- what is kept
 
-abbrev AreKept : List Demand → Type 0
-AreKept ds = All IsKept ds
+record AreKept (ds : List Demand) : Type 0 where
+  all : All IsKept ds
 
 nothing : AreKept []
-nothing = All-nil IsKept
+nothing = record { all = All-nil IsKept }
 
 one_kept : (at : ℕ) (rule : Rule) (kept : Bool) → kept ≡ true → AreKept (ask at rule kept)
-one_kept at rule kept is = All-cons IsKept (record { at = at; rule = rule; kept = kept }) [] is nothing
+one_kept at rule kept is = record { all = All-cons IsKept (record { at = at; rule = rule; kept = kept }) [] is (All-nil IsKept) }
 
-both_kept : (ds es : List Demand) → AreKept ds → AreKept es → AreKept (ds ++ es)
-both_kept [] es first second = second
-both_kept (d ∷ ds) es first second = All-cons IsKept d (ds ++ es) (All-head IsKept d ds first) (both_kept ds es (All-tail IsKept d ds first) second)
+all_both : (ds es : List Demand) → All IsKept ds → All IsKept es → All IsKept (ds ++ es)
+all_both [] es first second = second
+all_both (d ∷ ds) es first second = All-cons IsKept d (ds ++ es) (All-head IsKept d ds first) (all_both ds es (All-tail IsKept d ds first) second)
 
-then : {ds es : List Demand} → AreKept ds → AreKept es → AreKept (ds ++ es)
-then {ds} {es} first second = both_kept ds es first second
+both : {ds es : List Demand} → AreKept ds → AreKept es → AreKept (ds ++ es)
+both {ds} {es} first second = record { all = all_both ds es first.all second.all }
 
 -- ---- names
 
@@ -128,7 +128,7 @@ longer (b ∷ bs) some = grind (arith, nat_tests)
 -- a new name of file scope
 name_kept : (known : Table) (at : ℕ) (name : List ℕ) → IsName name → named known (prefixed name) ≡ None → AreKept (file_name (file_scope [] known []) at (prefixed name))
 name_kept known at name is new =
-    then (one_kept at NameIsOfFile (is_of_file (prefixed name)) (ap (λ b. b || same_word (prefixed name) stop_name) (longer name (word_some name is.0))))
+    both (one_kept at NameIsOfFile (is_of_file (prefixed name)) (ap (λ b. b || same_word (prefixed name) stop_name) (longer name (word_some name is.0))))
     (one_kept at NameIsNew (not (is_taken (file_scope [] known []) (prefixed name))) (ap (λ found. not (is_some found || false)) new))
 
 -- ---- arguments and calls
@@ -146,11 +146,11 @@ number_given None = refl
 number_given (Some a) = refl
 
 module _ (target : Target) (names : Names) where
-  args_kept : (at : ℕ) (values : List ℕ) → All Small values → AreKept (args_demands target names at (replicate (length values) (Value (Int U8))) (map constant_for values))
-  args_kept at [] small = nothing
-  args_kept at (v ∷ vs) small =
-      then (then (one_kept at GivenIsWanted _ (number_given (constant_type target Plain v))) (one_kept at ConstantHasType _ (has_type target v (All-head Small v vs small))))
-      (args_kept _ vs (All-tail Small v vs small))
+  args_kept : (values : List ℕ) (at : ℕ) → All Small values → AreKept (args_demands target names at (replicate (length values) (Value (Int U8))) (map constant_for values))
+  args_kept [] at small = nothing
+  args_kept (v ∷ vs) at small =
+      both (both (one_kept at GivenIsWanted _ (number_given (constant_type target Plain v))) (one_kept at ConstantHasType _ (has_type target v (All-head Small v vs small))))
+      (args_kept vs _ (All-tail Small v vs small))
 
 counted : (k n : ℕ) → k ≡ n → nat_eq k n ≡ true
 counted k n e = eq-eqb k n e
@@ -173,15 +173,15 @@ module _ (target : Target) (imports : List FirstImport) where
       let reached : named names.functions (prefixed fits.target.name) ≡ Some s = at_index (λ i. named names.functions (prefixed i.name) ≡ Some (signature_for i)) imports reaches c.import fits.target fits.found in
       let found : named names.functions (called_for c).name ≡ Some s = ap (λ i. named names.functions (prefixed (name_of i))) fits.found ∙ reached in
       let many : length s.params ≡ length (called_for c).args = length_replicated fits.target.params (Value (Int U8)) ∙ sym fits.counted ∙ sym (length_mapped constant_for c.values) in
-      rw found (then (then (then (one_kept at CalledIsEarlier true refl) (one_kept at ArgumentsAreCounted _ (counted (length s.params) (length (called_for c).args) many))) (one_kept at ResultIsWanted true refl))
+      rw found (both (both (both (one_kept at CalledIsEarlier true refl) (one_kept at ArgumentsAreCounted _ (counted (length s.params) (length (called_for c).args) many))) (one_kept at ResultIsWanted true refl))
       (subst (λ k. AreKept (args_demands target names (behind at ((called_for c).name ++ codes "(")) (replicate k (Value (Int U8))) (map constant_for c.values))) fits.counted
-      (args_kept target names (behind at ((called_for c).name ++ codes "(")) c.values fits.small)))
+      (args_kept target names c.values (behind at ((called_for c).name ++ codes "(")) fits.small)))
 
   calls_kept : (result : CType) (in_loop : Bool) (braces : ℕ) (names : Names) → Reaches names.functions imports → (at : ℕ) (cs : List FirstCall) → All (CallFits imports) cs
       → AreKept (stmts_demands target result in_loop braces names at (body_for imports cs))
   calls_kept result in_loop braces names reaches at [] fits = nothing
   calls_kept result in_loop braces names reaches at (c ∷ cs) fits =
-      then (call_kept names reaches (behind at (indent braces)) c (All-head (CallFits imports) c cs fits))
+      both (call_kept names reaches (behind at (indent braces)) c (All-head (CallFits imports) c cs fits))
       (calls_kept result in_loop braces names reaches (behind at (stmt_text braces (Call (called_for c)))) cs (All-tail (CallFits imports) c cs fits))
 
   functions_kept : (known : Table) → Reaches known imports → (at : ℕ) (ps : List FirstProc) → All IsName (map (λ p. p.name) ps) → AreNew known (map (λ p. p.name) ps) → AllPairs Differs (map (λ p. p.name) ps)
@@ -192,15 +192,15 @@ module _ (target : Target) (imports : List FirstImport) where
       let f : Function = function_for imports p in
       let fresh : named known (prefixed p.name) ≡ None = All-head (λ n. named known (prefixed n) ≡ None) p.name names new in
       let others : AreNew known names = All-tail (λ n. named known (prefixed n) ≡ None) p.name names new in
-      then (then (name_kept known _ p.name (All-head IsName p.name names named_) fresh)
+      both (both (name_kept known _ p.name (All-head IsName p.name names named_) fresh)
       (calls_kept Void false 1 (inside (file_scope [] known []) f.name) reaches _ p.calls (All-head (λ p. All (CallFits imports) p.calls) p ps fits)))
       (functions_kept ((f.name, function_signature f) ∷ known) (still_reaches known p.name (function_signature f) fresh imports reaches) _ ps (All-tail IsName p.name names named_)
       (still_new known p.name (function_signature f) names (pairs_head Differs p.name names differ) others) (pairs_tail Differs p.name names differ) (All-tail (λ p. All (CallFits imports) p.calls) p ps fits))
 
 -- no parameter has a tag
-params_kept : (names : Names) (at : ℕ) (k : ℕ) → AreKept (types_demands names at (replicate k (Value (Int U8))))
-params_kept names at zero = nothing
-params_kept names at (suc k) = params_kept names _ k
+params_kept : (names : Names) (k at : ℕ) → AreKept (types_demands names at (replicate k (Value (Int U8))))
+params_kept names zero at = nothing
+params_kept names (suc k) at = params_kept names k _
 
 reaches_more : (known : Table) (before : List FirstImport) (i : FirstImport) → Reaches known before → named known (prefixed i.name) ≡ Some (signature_for i) → Reaches known (before ++ i ∷ [])
 reaches_more known before i reaches found = All-push (λ i. named known (prefixed i.name) ≡ Some (signature_for i)) before i reaches found
@@ -225,7 +225,7 @@ module _ (target : Target) (rest : List (List ℕ)) (fs : List Function) (all : 
       let later : Table = (prefixed i.name, s) ∷ known in
       let fresh : named known (prefixed i.name) ≡ None = All-head (λ n. named known (prefixed n) ≡ None) i.name names new in
       let others : AreNew known names = All-tail (λ n. named known (prefixed n) ≡ None) i.name names new in
-      then (then (name_kept known _ i.name (All-head IsName i.name names named_) fresh) (params_kept (file_scope [] known []) _ i.params))
+      both (both (name_kept known _ i.name (All-head IsName i.name names named_) fresh) (params_kept (file_scope [] known []) i.params _))
       (externs_kept (before ++ i ∷ []) is (append_assoc before (i ∷ []) is ∙ whole) later _
       (reaches_more later before i (still_reaches known i.name s fresh before reaches) (same_named known i.name s))
       (All-tail IsName i.name names named_) (still_new known i.name s names (pairs_head Differs i.name names differ) others) (pairs_tail Differs i.name names differ) go)
@@ -244,9 +244,9 @@ module _ (m : FirstModule) (valid : Valid m) where
       let imports : List (List ℕ) = import_names m valid in
       let procs : List (List ℕ) = proc_names m valid in
       record {
-        kept = externs_kept target procs (map (function_for m.imports) m.procs) m.imports [] m.imports refl first_table (behind 0 fixed_text) (All-nil (λ i. named first_table (prefixed i.name) ≡ Some (signature_for i)))
+        kept = (externs_kept target procs (map (function_for m.imports) m.procs) m.imports [] m.imports refl first_table (behind 0 fixed_text) (All-nil (λ i. named first_table (prefixed i.name) ≡ Some (signature_for i)))
         valid.named (all_new (imports ++ procs)) valid.different
-        (λ known at reaches new. functions_kept target m.imports known reaches at m.procs (all_after IsName imports procs valid.named) new (pairs_after Differs imports procs valid.different) valid.calls);
+        (λ known at reaches new. functions_kept target m.imports known reaches at m.procs (all_after IsName imports procs valid.named) new (pairs_after Differs imports procs valid.different) valid.calls)).all;
       }
 
   pub lowered_reads_back : (target : Target) → ReadsBack (lowered m) (unit_text (lowered m)) target

@@ -20,8 +20,8 @@ use Rattle.first_form.specs.declared.FirstImport.{FirstImport}
 use Rattle.first_form.specs.declared.FirstProc.{FirstProc}
 use Rattle.first_form.specs.declared.FirstCall.{FirstCall}
 use Rattle.first_form.specs.Valid.{CallFits, Valid}
-use Rattle.core_meaning.specs.Source as source
-use Rattle.core_meaning.proofs.Source.{runs_defined}
+use Rattle.first_meaning.specs.Source as source
+use Rattle.first_meaning.proofs.Source.{runs_defined}
 use Rattle.c_ast.specs.declared.CStruct.{CStruct}
 use Rattle.c_ast.specs.declared.Target.{Target}
 use Rattle.c_ast.specs.declared.Target.TheVariants.{T32}

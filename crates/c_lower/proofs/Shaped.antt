@@ -7,7 +7,7 @@ use Rattle.first_form.specs.declared.FirstModule.{FirstModule}
 use Rattle.first_form.specs.declared.FirstImport.{FirstImport}
 use Rattle.first_form.specs.declared.FirstProc.{FirstProc}
 use Rattle.first_form.specs.declared.FirstCall.{FirstCall}
-use Rattle.core_meaning.specs.Source.{export_for, exports_of}
+use Rattle.first_meaning.specs.Source.{export_for, exports_of}
 use Rattle.c_ast.specs.Names.{prefixed}
 use Rattle.c_ast.specs.Syntax.{Function, TranslationUnit}
 use Rattle.c_ast.specs.Exports.{exports_by, export_as, exports_among, c_exports, plain_params, plain_result}

@@ -4,7 +4,7 @@ use Rattle.iv_script.specs.declared.Script.{Script}
 use Rattle.iv_script.specs.Scripts.{Fits}
 use Rattle.step_semantics.specs.Refines as runs
 use Rattle.first_form.specs.declared.FirstModule.{FirstModule}
-use Rattle.core_meaning.specs.Source.{run_src, exports_of}
+use Rattle.first_meaning.specs.Source.{run_src, exports_of}
 use Rattle.c_ast.specs.declared.Target.{Target}
 use Rattle.c_ast.specs.Syntax.{TranslationUnit}
 use Rattle.c_meaning.specs.Runs.{run_c}

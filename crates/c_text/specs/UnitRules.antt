@@ -30,11 +30,36 @@ file_scope structs functions objects = record { structs = structs; functions = f
 abbrev pub file_name : Names → ℕ → Name → List Demand
 file_name names at x = ask at NameIsOfFile (is_of_file x) ++ new_name names at x
 
--- ---- structs
-
 abbrev pub is_allowed_length : Option ℕ → Bool
 is_allowed_length None = true
 is_allowed_length (Some n) = nat_le 1 n && nat_le n 65535
+
+-- ---- parameters, and externs
+
+-- parameters from a place on, and the names behind them
+abbrev pub params_demands : Names → ℕ → List CParam → List Demand
+params_demands names at [] = []
+params_demands names at (p ∷ ps) =
+    type_demands names at p.ty ++ new_name names (behind at (const_text p.ty [])) p.name ++ params_demands (with_const names p.name p.ty) (behind at (param_text p ++ codes ", ")) ps
+
+abbrev pub with_params : Names → List CParam → Names
+with_params names [] = names
+with_params names (p ∷ ps) = with_params (with_const names p.name p.ty) ps
+
+-- within a function its own name is in scope, and cannot be called
+abbrev pub inside : Names → Name → Names
+inside names x = record { structs = names.structs; functions = names.functions; itself = x ∷ []; values = names.values; in_function = true }
+
+abbrev pub types_demands : Names → ℕ → List CType → List Demand
+types_demands names at [] = []
+types_demands names at (t ∷ ts) = type_demands names at t ++ types_demands names (behind at (type_text t ++ codes ", ")) ts
+
+abbrev pub extern_demands : Names → ℕ → CExtern → List Demand
+extern_demands names at x =
+    let named : ℕ = behind at (codes "extern " ++ typed_text x.result []) in
+    type_demands names (behind at (codes "extern ")) x.result ++ file_name names named x.name ++ types_demands names (behind named (x.name ++ codes "(")) x.params
+
+-- ---- declarations over a target
 
 module _ (target : Target) where
   -- a member behind these structs and these members
@@ -54,20 +79,6 @@ module _ (target : Target) where
       ask (behind at (codes "struct ")) TagIsNew (not (is_tag (file_scope structs [] []) s.name)) ++ members_demands structs [] (behind at (line (codes "struct " ++ s.name ++ codes " {"))) s.members
 
   -- ---- functions
-
-  -- parameters from a place on, and the names behind them
-  abbrev pub params_demands : Names → ℕ → List CParam → List Demand
-  params_demands names at [] = []
-  params_demands names at (p ∷ ps) =
-      type_demands names at p.ty ++ new_name names (behind at (const_text p.ty [])) p.name ++ params_demands (with_const names p.name p.ty) (behind at (param_text p ++ codes ", ")) ps
-
-  abbrev pub with_params : Names → List CParam → Names
-  with_params names [] = names
-  with_params names (p ∷ ps) = with_params (with_const names p.name p.ty) ps
-
-  -- within a function its own name is in scope, and cannot be called
-  abbrev pub inside : Names → Name → Names
-  inside names x = record { structs = names.structs; functions = names.functions; itself = x ∷ []; values = names.values; in_function = true }
 
   abbrev pub function_demands : Names → ℕ → Function → List Demand
   function_demands names at f =
@@ -98,15 +109,6 @@ module _ (target : Target) where
       object_demands (file_scope structs functions objects) at o ++ objects_demands structs functions ((o.name, ObjectName o.constant o.base) ∷ objects) (behind at (file_object_text o)) os fs
 
   -- ---- externs
-
-  abbrev pub types_demands : Names → ℕ → List CType → List Demand
-  types_demands names at [] = []
-  types_demands names at (t ∷ ts) = type_demands names at t ++ types_demands names (behind at (type_text t ++ codes ", ")) ts
-
-  abbrev pub extern_demands : Names → ℕ → CExtern → List Demand
-  extern_demands names at x =
-      let named : ℕ = behind at (codes "extern " ++ typed_text x.result []) in
-      type_demands names (behind at (codes "extern ")) x.result ++ file_name names named x.name ++ types_demands names (behind named (x.name ++ codes "(")) x.params
 
   abbrev pub externs_demands : List CStruct → List (Name × Signature) → ℕ → List CExtern → List FileObject → List Function → List Demand
   externs_demands structs functions at [] os fs = objects_demands structs functions [] at os fs

@@ -2,7 +2,7 @@
 
 ghost use Rattle.c_text.specs.FaultExamples.{FaultExamples, StructFaultExamples};
 ghost use Rattle.c_text.specs.FirstFault.{RightOrAtFault, NotRightAndAtFault, OneFirstFault, SearchFindsIt};
-ghost use Rattle.c_text.specs.Laws.{UnitsNestAsTheyAre, RightUnitsReadBack, FirstTextsTellUnitsApart};
+ghost use Rattle.c_text.specs.Laws.{UnitsNestAsTheyAre, RightUnitsReadBack, FirstTextsTellUnitsApart, HeadThenFunctions};
 
 /// A unit of the subset whose names and types are right, and that nests to at most 300 brackets, reads back from its own text.
 pub fn right_units_read_back()
@@ -27,4 +27,9 @@ pub fn fault_examples()
 /// Bytes spell at most one unit of the first forms.
 pub fn first_texts_tell_units_apart()
     ensures { FirstTextsTellUnitsApart }
+{}
+
+/// The text of a unit is that of its head, and then those of its functions in order.
+pub fn heads_and_functions_make_units()
+    ensures { HeadThenFunctions }
 {}

@@ -6,5 +6,6 @@ mod laws;
 
 pub use fault::{CFault, CWhy};
 pub use laws::{
-    fault_examples, first_texts_tell_units_apart, right_or_at_fault, right_units_read_back,
+    fault_examples, first_texts_tell_units_apart, heads_and_functions_make_units,
+    right_or_at_fault, right_units_read_back,
 };

@@ -10,7 +10,9 @@ use crate::braces::Braces;
 use crate::init::put_init;
 use crate::pieces::Pieces;
 use crate::stmt::put_block_line;
-use crate::types::{const_name, put_base, put_const, put_object, put_type, put_typed, storage_name};
+use crate::types::{
+    const_name, put_base, put_const, put_object, put_type, put_typed, storage_name,
+};
 use c_ast::{CExtern, CFunction, CMember, CObject, CParam, CStruct, CType};
 use itoa::Buffer;
 

@@ -131,15 +131,16 @@ fn put_stmt<P: Pieces>(stmt: &CStmt, braces: &Braces, out: &mut P)
         CStmt::ConstCall(name, ty, call) => put_const_call(name, ty, call, braces, out),
         CStmt::Object(name, base, init) => put_local(name, base, init, braces, out),
         CStmt::Assign(place, value) => put_assign(place, value, braces, out),
-        CStmt::If(test, first, None) => {
-            put_test(test, braces, out);
-            put_block_line(first.as_slice(), braces, out);
-        }
-        CStmt::If(test, first, Some(second)) => {
+        CStmt::If(test, first, second) => {
             put_test(test, braces, out);
             put_block(first.as_slice(), braces, out);
-            out.put(b" else ");
-            put_block_line(second.as_slice(), braces, out);
+            match second {
+                None => out.put(b"\n"),
+                Some(second) => {
+                    out.put(b" else ");
+                    put_block_line(second.as_slice(), braces, out);
+                }
+            }
         }
         CStmt::Forever(body) => {
             put_indent(braces, out);

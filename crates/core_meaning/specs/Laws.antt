@@ -1,44 +1,40 @@
--- The laws of the source's runs.
-use Rattle.std.specs.Prelude.{◌≡◌, ℕ, pos, List, [], ◌∷◌, None, codes}
-use Rattle.iv_script.specs.declared.End.{End}
-use Rattle.iv_script.specs.declared.End.TheVariants.{Ended, Going}
-use Rattle.iv_script.specs.declared.Event.{Event}
-use Rattle.iv_script.specs.declared.Event.TheVariants.{Call, Ret}
-use Rattle.iv_script.specs.declared.Piece.TheVariants.{Value}
-use Rattle.iv_script.specs.declared.Outcome.{Outcome}
+-- The laws of runs, of expressions, and of values that are made of numbers.
+use Rattle.std.specs.Prelude.{◌≡◌, ℕ, ◌≤◌, ℤ, List, ◌++◌, length, drop, Option}
 use Rattle.iv_script.specs.declared.Script.{Script}
-use Rattle.iv_script.specs.Scripts.{Fits}
+use Rattle.step_semantics.specs.Steps.{World}
 use Rattle.step_semantics.specs.Outcomes.{OutcomeLaws}
-use Rattle.step_semantics.specs.Safe.{NeverUndefined}
-use Rattle.first_form.specs.declared.FirstModule.{FirstModule}
-use Rattle.first_form.specs.Valid.{Valid}
-use Rattle.core_meaning.specs.Source.{run_src, exports_of}
+use Rattle.type_trees.specs.Trees.{count}
+use Rattle.type_trees.specs.Values.{cells, HasForm}
+use Rattle.area_types.specs.Trees.{Written}
+use Rattle.core_tree.specs.Syntax.{ModuleCore, ExprCore, InitCore, ContractCore}
+use Rattle.core_meaning.specs.Values.{Value}
+use Rattle.core_meaning.specs.Areas.{filled}
+use Rattle.core_meaning.specs.State.{State}
+use Rattle.core_meaning.specs.Expressions.{eval, eval_all}
+use Rattle.core_meaning.specs.Initializers.{first_value}
+use Rattle.core_meaning.specs.Conditions.{tested_all}
+use Rattle.core_meaning.specs.Gives.{Gives, GivesAll, AllHold, FirstGives, Rests}
+use Rattle.core_meaning.specs.Run.{run_src}
 
+-- for each number of steps there is one outcome; events only grow with the steps, and an end stays
 abbrev pub RunsObeyTheirLaws : Type 0
-RunsObeyTheirLaws = (m : FirstModule) (script : Script) → OutcomeLaws (run_src m script)
+RunsObeyTheirLaws = (core : ModuleCore) (script : Script) → OutcomeLaws (run_src core script)
 
-abbrev pub RunsAreDefined : Type 0
-RunsAreDefined = (m : FirstModule) → Valid m → (script : Script) → Fits script (exports_of m) → NeverUndefined (run_src m script)
+-- an expression changes neither the state nor the world, and its value does not depend on its steps
+abbrev pub ExpressionsChangeNothing : Type 0
+ExpressionsChangeNothing = (core : ModuleCore) (outcome : Option Value) (e : ExprCore) (n : ℕ) (w : World) (s : State) → Rests core (Gives core outcome s e) w s (eval core outcome e n w s)
 
--- a module with an import `set` of two parameters, and a procedure `go` that calls it with 1 and 2, and then with 3 and 4
-abbrev pub setting : FirstModule
-setting = record {
-  imports = record { name = codes "set"; params = 2 } ∷ [];
-  procs = record { name = codes "go"; calls = record { import = 0; values = 1 ∷ 2 ∷ [] } ∷ record { import = 0; values = 3 ∷ 4 ∷ [] } ∷ [] } ∷ [];
-}
+-- neither do arguments, conditions and initializers
+abbrev pub ArgumentsChangeNothing : Type 0
+ArgumentsChangeNothing = (core : ModuleCore) (es : List ExprCore) (n : ℕ) (w : World) (s : State) → Rests core (GivesAll core s es) w s (eval_all core es n w s)
 
-abbrev pub calling_go : Script
-calling_go = record { calls = record { name = codes "go"; values = []; line = 1 } ∷ []; replies = [] }
+abbrev pub ConditionsChangeNothing : Type 0
+ConditionsChangeNothing =
+    (core : ModuleCore) (outcome : Option Value) (cs : List ContractCore) (n : ℕ) (w : World) (s : State) → Rests core (λ t. AllHold core outcome s cs) w s (tested_all core outcome cs n w s)
 
-abbrev pub set_with : ℕ → ℕ → Event
-set_with a b = Call (codes "set") (Value (pos a) ∷ Value (pos b) ∷ [])
+abbrev pub InitializersChangeNothing : Type 0
+InitializersChangeNothing = (core : ModuleCore) (i : Option InitCore) (ty : Written) (n : ℕ) (w : World) (s : State) → Rests core (FirstGives core s i ty) w s (first_value core i ty n w s)
 
-abbrev pub shown : List Event → End → Outcome
-shown events end = record { events = events; end = end; areas = [] }
-
--- the entry call takes the first step, and each call of the import one more
-pub record CallsTakeSteps : Type 0 where
-  pub none : run_src setting calling_go 0 ≡ shown [] Going
-  pub entered : run_src setting calling_go 1 ≡ shown [] Going
-  pub first : run_src setting calling_go 2 ≡ shown (set_with 1 2 ∷ []) Going
-  pub both : run_src setting calling_go 3 ≡ shown (set_with 1 2 ∷ set_with 3 4 ∷ Ret (codes "go") None ∷ []) Ended
+-- A value that is filled from numbers enough has the form of its type, and its cells hold the first of the numbers, in order.
+abbrev pub FilledValuesHold : Type 0
+FilledValuesHold = (a : Written) (vs : List ℤ) → count a ≤ length vs → HasForm a (filled a vs) × (cells (filled a vs) ++ drop (count a) vs ≡ vs)

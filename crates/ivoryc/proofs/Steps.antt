@@ -36,7 +36,7 @@ is_compiled text u is =
       reads_back = subst Reads is.compiled.reads_back.spelled.is is.compiled.reads_back;
       shape = is.compiled.shape;
       refines = is.compiled.refines;
-      only = λ v spells. one_unit v (unit_of u) spells.in_subset is.compiled.reads_back.spelled.in_subset (sym spells.is);
+      only = λ v first spells. one_unit v (unit_of u) first is.compiled.forms (sym spells.is);
     }
 
 judged_so : (file front seen : List ℕ) (store : Change StoreSeen) (out : Change SinkSeen) (v : Verdict) → Gives store.before.holds file source_limit front

@@ -7,6 +7,7 @@ use Rattle.first_form.specs.declared.FirstModule.{FirstModule}
 use Rattle.first_form.specs.Stands.{Stands}
 use Rattle.c_ast.specs.declared.Target.TheVariants.{T32}
 use Rattle.c_ast.specs.Syntax.{TranslationUnit}
+use Rattle.c_text.specs.FirstForms.{FirstForms}
 use Rattle.c_text.specs.ReadsBack.{Spells, ReadsBack}
 use Rattle.c_lower.specs.Shape.{Shape}
 use Rattle.c_lower.specs.Refines.{Refines}
@@ -35,14 +36,14 @@ pub record IsUnbuilt (text : List ℕ) : Type 0 where
 
 -- ---- the headline: C text that does what a module text says
 
--- These bytes are the text of a unit, and of no other, with the shape of the module that the text stands for, and the unit does what the module
+-- These bytes are the text of a unit, and of no other of the first forms, with the shape of the module that the text stands for, and the unit does what the module
 -- does: for every script and every number of steps, both ways, and never undefined.
 pub record IsCompiled (text bytes : List ℕ) : Type 0 where
   pub core : FirstModule
   pub form : FirstForm text core
   pub unit : TranslationUnit
   pub reads_back : ReadsBack unit bytes T32
-  pub only : (other : TranslationUnit) → Spells other bytes → other ≡ unit
+  pub only : (other : TranslationUnit) → FirstForms other → Spells other bytes → other ≡ unit
   pub shape : Shape core unit
   pub refines : Refines core unit T32
 

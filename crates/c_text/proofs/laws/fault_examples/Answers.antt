@@ -43,4 +43,3 @@ returns-clause-structs c = record {
   braces = simp (one_is, two_is) refl;
   too_many = simp (one_is, two_is) refl;
 }
-

@@ -1,6 +1,10 @@
-use Rattle.c_ast.specs.View.{stmt_of}
+use Rattle.std.proofs.Common.{◌≡◌, ◌++◌, ◌∙◌, ◌∷◌, [], ap, sym, Some, None, append_assoc}
+use Rattle.std.specs.Prelude.{codes}
+use Rattle.c_ast.specs.declared.stmt.CStmt.TheVariants as stmt
+use Rattle.c_ast.specs.View.{expr_of, stmt_of}
 use Rattle.c_ast.proofs.View.{if_is, if_else_is, forever_is, break_is, block_is}
-use Rattle.c_text.specs.StatementText.{stmt_text}
+use Rattle.c_text.specs.ExpressionText.{expr_text}
+use Rattle.c_text.specs.StatementText.{indent, stmt_text}
 use Rattle.c_writer.specs.Depths.{depth}
 use Rattle.c_writer.proofs.Depths.{in_is}
 use Rattle.c_writer.proofs.Lists.{one_more, all_put, stmts_are}
@@ -12,17 +16,6 @@ put_block-returns g t c = then (then (then c.put.ensures (rw in_is at c.put_stmt
 
 pub put_block_line-returns : goal.put_block_line-returns
 put_block_line-returns g t c = then c.put_block.ensures c.put.ensures
-
-pub put_stmt-returns-in-If-default-default-None : goal.put_stmt-returns-in-If-default-default-None
-put_stmt-returns-in-If-default-default-None g t c =
-    rw c.in-If-default-default-None.is (rw c.in-If-default-default-None.field-2-is (rw (if_is c.in-If-default-default-None.test c.in-If-default-default-None.first)
-    (then c.put_test.ensures (rw c.as_slice.ensures at c.put_block_line.ensures))))
-
-pub put_stmt-returns-in-If-default-default-Some : goal.put_stmt-returns-in-If-default-default-Some
-put_stmt-returns-in-If-default-default-Some g t c =
-    rw c.in-If-default-default-Some.is (rw c.in-If-default-default-Some.field-2-is (rw (if_else_is c.in-If-default-default-Some.test c.in-If-default-default-Some.first c.in-If-default-default-Some.second)
-    (then (then (then c.put_test-in-If-default-default-Some.ensures (rw c.as_slice-in-If-default-default-Some.ensures at c.put_block.ensures)) c.put.ensures)
-    (rw c.as_slice-in-If-default-default-Some-2.ensures at c.put_block_line-in-If-default-default-Some.ensures))))
 
 pub put_stmt-returns-in-Forever : goal.put_stmt-returns-in-Forever
 put_stmt-returns-in-Forever g t c =
@@ -43,3 +36,16 @@ pub put_stmts-returns : goal.put_stmts-returns
 put_stmts-returns g t c =
     as_text (stmts_are (depth c.args.braces.now) stmt_of c.args.stmts.now)
     (all_put (λ s. stmt_text (depth c.args.braces.now) (stmt_of s)) c.args.stmts.now c.loop-stmt.stmt-index c.loop-stmt-test.false c.loop-stmt.invariant)
+
+-- the end of the line belongs to the first block
+pub put_stmt-returns-in-None : goal.put_stmt-returns-in-None
+put_stmt-returns-in-None g t c =
+    let whole : c.args.stmt.now ≡ stmt.If c.in-If.test c.in-If.first None = c.in-If.is ∙ ap (λ x. stmt.If c.in-If.test c.in-If.first x) c.in-None.is in
+    rw whole (rw (if_is c.in-If.test c.in-If.first)
+    (as_text (append_assoc (indent (depth c.args.braces.now) ++ codes "if (" ++ expr_text (expr_of c.in-If.test) ++ codes ") ") _ (10 ∷ [])) (then (then c.put_test.ensures (rw c.as_slice.ensures at c.put_block.ensures)) c.put.ensures)))
+
+pub put_stmt-returns-in-Some : goal.put_stmt-returns-in-Some
+put_stmt-returns-in-Some g t c =
+    let whole : c.args.stmt.now ≡ stmt.If c.in-If.test c.in-If.first (Some c.in-Some.second) = c.in-If.is ∙ ap (λ x. stmt.If c.in-If.test c.in-If.first x) c.in-Some.is in
+    rw whole (rw (if_else_is c.in-If.test c.in-If.first c.in-Some.second)
+    (then (then (then c.put_test.ensures (rw c.as_slice.ensures at c.put_block.ensures)) c.put-in-Some.ensures) (rw c.as_slice-in-Some.ensures at c.put_block_line.ensures)))

@@ -8,4 +8,4 @@ use Rattle.c_writer.specs.Stages.{Puts}
 use Rattle.c_writer.proofs.stmt.+stmts.Given as goal
 
 abbrev pub invariant-put_stmts-loop-stmt : goal.invariant-put_stmts-loop-stmt
-invariant-put_stmts-loop-stmt g l = Puts (g.P.Pieces.stage l.initial.out) (g.P.Pieces.stage l.out) (texts (map (λ s. stmt_text (depth l.braces.now) (stmt_of s)) (take l.stmt-index l.stmts)))
+invariant-put_stmts-loop-stmt g l = Puts (g.P.Pieces.stage l.initial.out) (g.P.Pieces.stage l.out) (texts (map (λ s. stmt_text (depth l.braces) (stmt_of s)) (take l.stmt-index l.stmts)))

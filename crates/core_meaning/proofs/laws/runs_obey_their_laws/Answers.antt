@@ -1,4 +1,4 @@
-use Rattle.core_meaning.proofs.Source.{runs_obey}
+use Rattle.core_meaning.proofs.RunLaws.{runs_obey}
 use Rattle.core_meaning.proofs.laws.runs_obey_their_laws.Goals as goal
 
 pub returns : goal.returns

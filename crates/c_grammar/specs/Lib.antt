@@ -1,0 +1,10 @@
+pub mod Pieces
+pub mod Kinds
+pub mod Symbols
+pub mod TypeRules
+pub mod ExpressionRules
+pub mod StatementRules
+pub mod UnitRules
+pub mod Subset
+pub mod Examples
+pub mod Laws

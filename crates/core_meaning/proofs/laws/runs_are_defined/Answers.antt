@@ -1,5 +1,0 @@
-use Rattle.core_meaning.proofs.Source.{runs_defined}
-use Rattle.core_meaning.proofs.laws.runs_are_defined.Goals as goal
-
-pub returns : goal.returns
-returns c = runs_defined

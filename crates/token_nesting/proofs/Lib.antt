@@ -1,0 +1,12 @@
+pub mod Scan
+pub mod Ends
+pub mod Tokens
+pub mod Expressions
+pub mod Grounds
+pub mod Types
+pub mod Inits
+pub mod Lists
+pub mod Statements
+pub mod Items
+pub mod Modules
+pub mod Limit

@@ -13,7 +13,7 @@ use Rattle.c_ast.specs.declared.CScalar.TheVariants.{Int as Exact}
 use Rattle.c_ast.specs.declared.CBase.{CBase}
 use Rattle.c_ast.specs.declared.CBase.TheVariants.{Scalar}
 use Rattle.c_ast.specs.declared.CExtern.{CExtern}
-use Rattle.c_ast.specs.declared.CType.TheVariants.{Value, Pointer}
+use Rattle.c_ast.specs.declared.CType.TheVariants.{Void, Value, Pointer}
 use Rattle.c_ast.specs.declared.CBinary.TheVariants.{Add}
 use Rattle.c_ast.specs.Syntax.{Name, Expr, Read, Address, Binary, Cast, Var, At, Member, Init, One, Zero, Many, NoInits, MoreInits, FileObject, Stmt, Object, Assign, Return, Block, Call, Function, TranslationUnit}
 use Rattle.c_ast.specs.Examples.{rows, procedure}
@@ -120,13 +120,27 @@ pub record ReturnedPointerExamples : Type 0 where
   pub dead : with_pointing (started 1 ∷ Return (Some (Address (Var (codes "iv_y")))) ∷ []) 4 ≡ outcome_of [] (Undefined Dead)
   pub not_yet : with_pointing (started 1 ∷ Return (Some (Address (Var (codes "iv_y")))) ∷ []) 3 ≡ outcome_of [] Going
 
+-- `static void iv_g(uint8_t *const iv_p) { (*iv_p) = 6; }`
+abbrev pub setting : Function
+setting = record {
+  hidden = true;
+  name = codes "iv_g";
+  params = record { name = codes "iv_p"; ty = Pointer false byte } ∷ [];
+  result = Void;
+  body = rows (Assign (At (Read (Var (codes "iv_p")))) (number 6) ∷ []);
+}
+
+abbrev pub address : Expr
+address = Address (Var (codes "iv_y"))
+
+-- a function writes to an object of its caller
+abbrev pub PassedPointer : Type 0
+PassedPointer = run_c (unit_of [] (setting ∷ []) (started 4 ∷ gives (codes "iv_g") address ∷ show y ∷ [])) T32 (main_script []) 5 ≡ outcome_of (led (pos 6) ∷ returned ∷ []) Ended
+
 -- ---- what the outside sees and writes
 
 abbrev pub shown : Name → ℤ → Event
 shown x v = event.Call x (piece.Cells (v ∷ []) ∷ [])
-
-abbrev pub address : Expr
-address = Address (Var (codes "iv_y"))
 
 abbrev pub bytes_of_const : FileObject
 bytes_of_const = record { name = codes "iv_k"; constant = true; base = byte; init = One (number 3) }

@@ -3,7 +3,7 @@ ghost use Rattle.c_meaning.specs.ExpressionLaws.{ValuesHaveTheirTypes, PlacesHav
 ghost use Rattle.c_meaning.specs.NumberExamples.{SumExamples, ProductExamples, QuotientExamples, BitExamples, LeftShiftExamples, RightShiftExamples, ComparisonExamples, UnaryExamples, PointerExamples};
 ghost use Rattle.c_meaning.specs.ValueExamples.{NameExamples, OrderExamples, CastExamples, ConditionExamples};
 ghost use Rattle.c_meaning.specs.PlaceExamples.{ReadExamples, ElementExamples, PointerCastExamples};
-ghost use Rattle.c_meaning.specs.MemoryExamples.{ObjectExamples, MissingExamples, AssignmentExamples, ReturnedPointerExamples, OutsideExamples, FileScopeExamples};
+ghost use Rattle.c_meaning.specs.MemoryExamples.{ObjectExamples, MissingExamples, AssignmentExamples, ReturnedPointerExamples, PassedPointer, OutsideExamples, FileScopeExamples};
 ghost use Rattle.c_meaning.specs.Examples.{EmptyMain, EmptyMainNeedsAStep, NoCalls, HiddenMain, LedOnce, LedNeedsAStep, LedTwice, LedWraps, LedTruth, LedSigned, LedTooGreat, LedTooGreatLater, Replied, NotReplied, BadlyReplied, Stops, CallsEarlier, CallsEarlierInSteps, CallsItself, EndlessLoop, EndlessLed, LoopLeft, LoopLeftInSteps, Returns, Blocks, EntryValueExamples, CallValueExamples, NameAndConditionExamples, StuckExamples, MeantExample};
 
 /// The outcomes of a run of C: one for each number of steps, whose events only grow, and whose end stays.
@@ -139,6 +139,7 @@ pub fn object_examples()
     ensures missing { MissingExamples }
     ensures assignments { AssignmentExamples }
     ensures returned { ReturnedPointerExamples }
+    ensures passed { PassedPointer }
 {}
 
 /// What the outside sees and writes behind pointers, and objects of file scope.

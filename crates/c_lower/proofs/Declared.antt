@@ -1,5 +1,5 @@
 -- The names and types of the lowered unit are right, and so its text reads back.
-use Rattle.std.proofs.Common.{◌≡◌, ◌≢◌, ℕ, zero, suc, ◌+◌, ◌<◌, ◌≤◌, ◌^◌, Bool, true, false, Option, List, [], ◌∷◌, ◌++◌, map, length, Some, None, refl, sym, ◌∙◌, ap, subst, arith, append_assoc}
+use Rattle.std.proofs.Common.{◌≡◌, ◌≢◌, ℕ, zero, suc, ◌<◌, ◌^◌, Bool, true, false, Option, List, [], ◌∷◌, ◌++◌, map, length, Some, None, refl, sym, ◌∙◌, ap, subst, arith, append_assoc}
 use Rattle.std.specs.Prelude.{slice_get, All, AllPairs, replicate, leb, nat_lt, nat_eq, ◌||◌, not, IsSome, codes, if◌then◌else◌}
 use Rattle.std.specs.Option.{is_some, option_map}
 use Rattle.std.proofs.lemmas.Bool.{le-leb, eq-eqb}
@@ -28,14 +28,14 @@ use Rattle.c_ast.specs.Syntax.{FunctionCall, Call, Function}
 use Rattle.c_text.specs.Spelling.{fixed_text, unit_text}
 use Rattle.c_ast.specs.Names.{named}
 use Rattle.c_ast.specs.Signatures.{Signature, stop_signature, extern_signature, function_signature}
-use Rattle.c_ast.specs.StaticTypes.{ValueType, Arithmetic, may_be_given}
+use Rattle.c_ast.specs.StaticTypes.{Arithmetic, may_be_given}
 use Rattle.c_ast.specs.declared.CKind.TheVariants.{Arith as Computed}
 use Rattle.c_text.specs.StatementText.{indent, stmt_text}
 use Rattle.c_text.specs.Rules.{Rule, NameIsNew, NameIsOfFile, CalledIsEarlier, ArgumentsAreCounted, ResultIsWanted, GivenIsWanted, ConstantHasType, Demand, ask, behind, where_typed}
 use Rattle.c_text.specs.Scopes.{Names, is_taken, is_of_file}
 use Rattle.c_text.specs.ExpressionRules.{args_demands, call_demands}
 use Rattle.c_text.specs.StatementRules.{stmts_demands}
-use Rattle.c_text.specs.UnitRules.{file_scope, inside, file_name, types_demands, functions_demands, externs_demands, unit_demands}
+use Rattle.c_text.specs.UnitRules.{file_scope, inside, file_name, types_demands, functions_demands, externs_demands}
 use Rattle.c_text.specs.Right.{IsKept, Right}
 use Rattle.c_text.proofs.FirstForms.{first_forms_nest}
 use Rattle.c_text.specs.ReadsBack.{ReadsBack}
@@ -245,8 +245,8 @@ module _ (m : FirstModule) (valid : Valid m) where
       let procs : List (List ℕ) = proc_names m valid in
       record {
         kept = (externs_kept target procs (map (function_for m.imports) m.procs) m.imports [] m.imports refl first_table (behind 0 fixed_text) (All-nil (λ i. named first_table (prefixed i.name) ≡ Some (signature_for i)))
-        valid.named (all_new (imports ++ procs)) valid.different
-        (λ known at reaches new. functions_kept target m.imports known reaches at m.procs (all_after IsName imports procs valid.named) new (pairs_after Differs imports procs valid.different) valid.calls)).all;
+            valid.named (all_new (imports ++ procs)) valid.different
+            (λ known at reaches new. functions_kept target m.imports known reaches at m.procs (all_after IsName imports procs valid.named) new (pairs_after Differs imports procs valid.different) valid.calls)).all;
       }
 
   pub lowered_reads_back : (target : Target) → ReadsBack (lowered m) (unit_text (lowered m)) target

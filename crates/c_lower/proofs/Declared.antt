@@ -244,8 +244,8 @@ module _ (m : FirstModule) (valid : Valid m) where
       let procs : List (List ℕ) = proc_names m valid in
       record {
         kept = (externs_kept target procs (map (function_for m.imports) m.procs) m.imports [] m.imports refl first_table (behind 0 fixed_text) (All-nil (λ i. named first_table (prefixed i.name) ≡ Some (signature_for i)))
-        valid.named (all_new (imports ++ procs)) valid.different
-        (λ known at reaches new. functions_kept target m.imports known reaches at m.procs (all_after IsName imports procs valid.named) new (pairs_after Differs imports procs valid.different) valid.calls)).all;
+            valid.named (all_new (imports ++ procs)) valid.different
+            (λ known at reaches new. functions_kept target m.imports known reaches at m.procs (all_after IsName imports procs valid.named) new (pairs_after Differs imports procs valid.different) valid.calls)).all;
       }
 
   pub lowered_reads_back : (target : Target) → ReadsBack (lowered m) (unit_text (lowered m)) target

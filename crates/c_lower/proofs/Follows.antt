@@ -6,13 +6,12 @@ use Rattle.iv_words.specs.declared.IntKind.TheVariants.{U8}
 use Rattle.iv_script.specs.declared.Export.{Export}
 use Rattle.iv_words.specs.Words.{same_word}
 use Rattle.iv_script.specs.Scripts.{export_of, found_fits, values_fit}
-use Rattle.step_semantics.specs.Steps.{World, Progress, Part, give, after, bind, tick, left}
+use Rattle.step_semantics.specs.Steps.{World, Progress, Part, give, after, bind, tick, change, left}
 use Rattle.step_semantics.specs.Control.{Control, Falls, Broke, Returned, onward}
-use Rattle.step_semantics.specs.Frames.{pop_frame}
 use Rattle.step_semantics.specs.Imports.{import_call}
 use Rattle.step_semantics.specs.Follows.{none_excused, Follows}
 use Rattle.step_semantics.specs.Bodies.{Returns, BodiesFollow}
-use Rattle.step_semantics.proofs.Equations.{after_after, tick_then}
+use Rattle.step_semantics.proofs.Equations.{after_after, after_same, tick_then, ticks_same}
 use Rattle.step_semantics.proofs.Following.{as_is, eased, rests, both_tick, bound, finished, wrapped}
 use Rattle.step_semantics.proofs.ImportFollows.{import_then_follows}
 use Rattle.step_semantics.proofs.RunFollows.{run_refines, none_fails}
@@ -23,6 +22,8 @@ use Rattle.first_form.specs.declared.FirstCall.{FirstCall}
 use Rattle.first_form.specs.Valid.{CallFits, Valid}
 use Rattle.first_meaning.specs.Source as source
 use Rattle.first_meaning.proofs.Source.{runs_defined}
+use Rattle.c_ast.specs.declared.CStruct.{CStruct}
+use Rattle.c_ast.specs.declared.Target.{Target}
 use Rattle.c_ast.specs.declared.Target.TheVariants.{T32}
 use Rattle.c_ast.specs.declared.CScalar.TheVariants.{Int}
 use Rattle.c_ast.specs.declared.CType.TheVariants.{Void, Value}
@@ -31,9 +32,10 @@ use Rattle.c_ast.specs.Syntax.{Function}
 use Rattle.iv_script.specs.declared.Piece.{Piece}
 use Rattle.iv_script.specs.declared.Piece.TheVariants as piece
 use Rattle.c_meaning.specs.Values.{Trouble, CValue, on_ok, as_arguments}
-use Rattle.c_meaning.specs.State.{Program, program_of, CState, at_rest, seen, leave, enter}
+use Rattle.c_meaning.specs.Memory.{CObjects}
+use Rattle.c_meaning.specs.State.{Program, program_of, CState, at_rest, seen, leave, enter, pop}
 use Rattle.c_meaning.specs.Expressions.{eval_all}
-use Rattle.c_meaning.specs.Calls.{CallResult, Nothing, Calls, no_functions, given, pieces_of, outside_with, outside, call_found, call}
+use Rattle.c_meaning.specs.Calls.{CallResult, Nothing, Calls, no_functions, given, pieces_of, written_shape, write_replies, reply_written, outside_with, outside, call_found, call}
 use Rattle.c_meaning.specs.Statements.{exec, exec_all}
 use Rattle.c_meaning.specs.Runs.{function_value, entry_result, entered, entry_among, with_function, entry}
 use Rattle.c_meaning.proofs.Lawful.{entry_lawful}
@@ -43,10 +45,19 @@ use Rattle.c_lower.specs.Refines.{Refines}
 use Rattle.c_lower.proofs.Imports.{found}
 use Rattle.c_lower.proofs.Constants.{int_value, byte_value, constants_are, arguments_are}
 
--- the same bytes reach the outside
-pieces_are : (values : List ℕ) → pieces_of (map byte_value values) ≡ Ok (source.pieces values)
-pieces_are [] = refl
-pieces_are (v ∷ vs) = ap (λ r. on_ok r (λ rest. let q : Result (List Piece) Trouble = Ok (piece.Value (pos v) ∷ rest) in q)) (pieces_are vs)
+-- the same bytes reach the outside, whatever objects there are, and no reply is written behind a number
+module _ (t : Target) (structs : List CStruct) (objects : CObjects) where
+  pieces_are : (values : List ℕ) → pieces_of t structs objects (map byte_value values) ≡ Ok (source.pieces values)
+  pieces_are [] = refl
+  pieces_are (v ∷ vs) = ap (λ r. on_ok r (λ rest. let q : Result (List Piece) Trouble = Ok (piece.Value (pos v) ∷ rest) in q)) (pieces_are vs)
+
+  nothing_written : (values : List ℕ) (reply : List ℤ) → write_replies t structs (map byte_value values) reply objects ≡ Ok objects
+  nothing_written [] reply = refl
+  nothing_written (v ∷ vs) reply = nothing_written vs reply
+
+nothing_shaped : (structs : List CStruct) (values : List ℕ) → written_shape structs (map byte_value values) ≡ []
+nothing_shaped structs [] = refl
+nothing_shaped structs (v ∷ vs) = nothing_shaped structs vs
 
 -- states hold nothing yet
 abbrev Alike : source.State → CState → Type 0
@@ -86,22 +97,32 @@ module _ (m : FirstModule) (valid : Valid m) where
 
     -- what a call comes to, once its step is taken
     abbrev reached : Part CState CallResult
-    reached = outside_with program (extern_for target) (source.pieces c.values)
+    reached = bind (import_call (seen program) target.name (source.pieces c.values) []) (λ reply. give Nothing)
 
-    arguments : as_arguments T32 (extern_for target).params (map int_value c.values) ≡ Ok (map byte_value c.values)
+    abbrev given_bytes : List CValue
+    given_bytes = map byte_value c.values
+
+    arguments : as_arguments T32 (extern_for target).params (map int_value c.values) ≡ Ok given_bytes
     arguments = ap (λ k. as_arguments T32 (replicate k (Value (Int U8))) (map int_value c.values)) (sym fits.counted) ∙ arguments_are c.values fits.small
 
-    call_is : call program functions (prefixed target.name) (map int_value c.values) ≡ reached
-    call_is =
-        ap (λ x. call_found program functions (prefixed target.name) (map int_value c.values) x) (found (map (λ p. p.name) m.procs) m.imports valid.different c.import target fits.found)
-        ∙ ap (λ r. given program r (outside program (extern_for target))) arguments
-        ∙ ap (λ r. given program r (outside_with program (extern_for target))) (pieces_are c.values)
+    outside_is : (j : ℕ) (w : World) (t : CState) → outside program (extern_for target) given_bytes j w t ≡ reached j w t
+    outside_is j w t =
+        ap (λ r. given program r (outside_with program (extern_for target) given_bytes) j w t) (pieces_are T32 [] t.objects c.values)
+        ∙ ap (λ shape. after (import_call (seen program) target.name (source.pieces c.values) shape j w t) (λ reply. reply_written program given_bytes (Nothing, reply))) (nothing_shaped [] c.values)
+        ∙ after_same (import_call (seen program) target.name (source.pieces c.values) [] j w t) (λ reply. reply_written program given_bytes (Nothing, reply)) (λ reply. give Nothing)
+        (λ reply i v s. ap (λ r. given program r (λ objects. change Nothing (λ x. record x { objects = objects })) i v s) (nothing_written T32 [] s.objects c.values reply))
+
+    call_is : (j : ℕ) (w : World) (t : CState) → call program functions (prefixed target.name) (map int_value c.values) j w t ≡ reached j w t
+    call_is j w t =
+        ap (λ x. call_found program functions (prefixed target.name) (map int_value c.values) x j w t) (found (map (λ p. p.name) m.procs) m.imports valid.different c.import target fits.found)
+        ∙ ap (λ r. given program r (outside program (extern_for target)) j w t) arguments
+        ∙ outside_is j w t
 
     exec_is : (j : ℕ) (w : World) (t : CState) → exec program functions (call_for m.imports c) j w t ≡ tick (bind reached (λ result. give Falls)) j w t
     exec_is j w t =
         ap (λ name. after (given program (eval_all program (map constant_for c.values) t) (λ values. tick (call program functions (prefixed name) values)) j w t) (λ result. give Falls)) (ap name_of fits.found)
         ∙ ap (λ r. after (given program r (λ values. tick (call program functions (prefixed target.name) values)) j w t) (λ result. give Falls)) (constants_are (lowered m) t c.values fits.small)
-        ∙ ap (λ part. after (tick part j w t) (λ result. give Falls)) call_is
+        ∙ ap (λ r. after r (λ result. give Falls)) (ticks_same 1 (call program functions (prefixed target.name) (map int_value c.values)) reached call_is j w t)
         ∙ tick_then reached (λ result. give Falls) j w t
 
     -- what each side does in that step
@@ -171,12 +192,12 @@ module _ (m : FirstModule) (valid : Valid m) where
         let body : Progress source.State (Control (Option ℤ)) = source.execs m.imports p.calls n w s in
         let own : CState = enter [] t in
         let body' : ℕ → Progress CState (Control (Option CValue)) = λ j. exec_all program functions (body_for m.imports p.calls) j w own in
-        let framed : ℕ → Progress CState (Control (Option CValue)) = λ j. left (λ before after. pop_frame after) t (left leave own (body' j)) in
+        let framed : ℕ → Progress CState (Control (Option CValue)) = λ j. left (λ before after. pop after) t (left leave own (body' j)) in
         let ends : Control (Option ℤ) → Part source.State (Option ℤ) = λ control. give (source.result_of control) in
         eased none_excused (Returns Alike) 0 0 15 0 n (after body ends) (λ j. after (after (framed j) (function_value program Void)) (entry_result program)) (omega arith) (omega arith)
         (finished none_excused NoResult (Returns Alike) 0 0 0 n (after body ends) (λ j. after (framed j) (function_value program Void)) (entry_result program)
         (bound none_excused Fell NoResult 0 0 0 n body framed ends (function_value program Void)
-        (wrapped none_excused Fell Fell (λ before after. pop_frame after) t 0 0 n body (λ j. left leave own (body' j)) (λ a u b v fell. fell_still a u b v (pop_frame v) fell)
+        (wrapped none_excused Fell Fell (λ before after. pop after) t 0 0 n body (λ j. left leave own (body' j)) (λ a u b v fell. fell_still a u b v (pop v) fell)
         (wrapped none_excused Fell Fell leave own 0 0 n body body' (λ a u b v fell. fell_still a u b v (leave own v) fell) (body_follows p.calls right s own n w)))
         (λ a u b v fell i le x. value_follows a u b v fell i x))
         (λ a u b v none i x. subst (λ r. Follows none_excused (Returns Alike) 0 0 i (give a i x u) (λ j. entry_result program r j x v)) (sym none.1) (rests none_excused (Returns Alike) 0 a None i x u v (record { same = sym none.0; states = tt }))))

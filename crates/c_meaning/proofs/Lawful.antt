@@ -4,9 +4,8 @@ use Rattle.std.specs.Prelude.{if◌then◌else◌, Result, Ok, Err}
 use Rattle.iv_script.specs.declared.EntryCall.{EntryCall}
 use Rattle.iv_script.specs.declared.Reason.TheVariants.{NoValue}
 use Rattle.iv_script.specs.declared.Script.{Script}
-use Rattle.step_semantics.specs.Steps.{FailedCheck, Part, give, tick, change}
+use Rattle.step_semantics.specs.Steps.{FailedCheck, Part, tick, change}
 use Rattle.step_semantics.specs.Control.{Control, Falls, Broke, Returned}
-use Rattle.step_semantics.specs.Frames.{pop_frame}
 use Rattle.step_semantics.specs.Lawful.{Lawful}
 use Rattle.step_semantics.specs.Outcomes.{OutcomeLaws}
 use Rattle.step_semantics.proofs.Prefixes.{prefix_refl}
@@ -14,16 +13,22 @@ use Rattle.step_semantics.proofs.Laws.{give_lawful, halt_lawful, bind_lawful, ti
 use Rattle.step_semantics.proofs.FrameLaws.{in_frame_lawful}
 use Rattle.step_semantics.proofs.ControlLaws.{also_lawful, forever_lawful}
 use Rattle.step_semantics.proofs.RunLaws.{import_call_lawful, run_outcomes}
+use Rattle.c_ast.specs.declared.CBase.{CBase}
 use Rattle.c_ast.specs.declared.CType.{CType}
 use Rattle.c_ast.specs.declared.CType.TheVariants.{Void, Value, Pointer}
 use Rattle.c_ast.specs.declared.CExtern.{CExtern}
 use Rattle.c_ast.specs.Syntax.{Name, Expr, FunctionCall, Stmt, Const, ConstCall, Object, Assign, If, IfElse, Forever, Break, Return, Block, Call, Stmts, Nil, Cons, Function}
 use Rattle.c_meaning.specs.Values.{Trouble, Undefined, Stuck, CValue, Num, Ptr, is_true, on_ok, as_assigned, as_arguments}
-use Rattle.c_meaning.specs.State.{Program, program_of, end_in, CState, declare, enter, seen, leave}
-use Rattle.c_meaning.specs.Expressions.{eval}
-use Rattle.c_meaning.specs.Calls.{troubled, given, CallResult, Nothing, Missing, Gave, Calls, no_functions, stop_at, pieces_of, reply_shape, reply_value, outside_with, outside, call_found, call}
-use Rattle.c_meaning.specs.Statements.{with_value, with_truth, call_step, used, declaration, exec, exec_all}
-use Rattle.c_meaning.specs.Runs.{function_value, param_types, bound, function_body, function_call, with_function, entry_result, entry_values, entered, entry_among, entry, first_state, run_from}
+use Rattle.c_meaning.specs.State.{Program, program_of, end_in, CState, declare, declare_object, enter, pop, seen, leave}
+use Rattle.c_memory.specs.Initializers.{Init}
+use Rattle.c_ast.specs.Structs.{tree}
+use Rattle.c_meaning.specs.Memory.{memory_of}
+use Rattle.c_meaning.specs.Places.{Lvalue, alive}
+use Rattle.c_meaning.specs.Expressions.{eval, eval_place}
+use Rattle.c_meaning.specs.Initializers.{eval_init}
+use Rattle.c_meaning.specs.Calls.{troubled, given, CallResult, Nothing, Missing, Gave, Calls, no_functions, stop_at, reply_shape, reply_value, reply_written, outside_with, outside, call_found, call}
+use Rattle.c_meaning.specs.Statements.{with_value, with_truth, call_step, used, declaration, object, object_with, stored, assign, exec, exec_all}
+use Rattle.c_meaning.specs.Runs.{gave, function_value, param_types, bound, function_body, function_call, with_function, entry_result, entry_values, entered, entry_among, entry, first_state, run_from}
 use Rattle.c_meaning.specs.Laws.{RunLaws}
 
 abbrev pub LawfulCalls : Calls → Type 0
@@ -48,10 +53,13 @@ stop_at_lawful p (Num kind site ∷ []) = halt_lawful (seen p) (FailedCheck _)
 stop_at_lawful p (Ptr constant base to ∷ []) = troubled_lawful p Stuck
 stop_at_lawful p (v ∷ u ∷ vs) = troubled_lawful p Stuck
 
+reply_written_lawful : (p : Program) (args : List CValue) (reply : CallResult × List ℤ) → Lawful (reply_written p args reply)
+reply_written_lawful p args reply = by_state_lawful _ (λ s. given_lawful p _ _ (λ objects. change_lawful reply.0 (λ u. record u { objects = objects })))
+
 outside_lawful : (p : Program) (x : CExtern) (args : List CValue) → Lawful (outside p x args)
 outside_lawful p x args =
-    given_lawful p (pieces_of args) (outside_with p x)
-    (λ pieces. given_lawful p (reply_shape x.result) _ (λ shape. bind_lawful _ _ (import_call_lawful (seen p) _ _ _) (λ reply. given_lawful p (reply_value x.result reply) give give_lawful)))
+    by_state_lawful _ (λ s. given_lawful p _ (outside_with p x args)
+    (λ pieces. given_lawful p (reply_shape x.result) _ (λ shape. bind_lawful _ _ (import_call_lawful (seen p) _ _ _) (λ reply. given_lawful p (reply_value x.result reply) (reply_written p args) (reply_written_lawful p args)))))
 
 call_found_lawful : (p : Program) (functions : Calls) → LawfulCalls functions → (name : Name) (values : List CValue) (found : Option CExtern) → Lawful (call_found p functions name values found)
 call_found_lawful p functions l name values (Some x) = given_lawful p (as_arguments p.target x.params values) (outside p x) (outside_lawful p x)
@@ -76,6 +84,15 @@ used_lawful p Nothing next l = troubled_lawful p Stuck
 used_lawful p Missing next l = troubled_lawful p (Undefined NoValue)
 used_lawful p (Gave v) next l = l v
 
+object_lawful : (p : Program) (x : Name) (b : CBase) → Lawful (object p x b)
+object_lawful p x b = by_state_lawful _ (λ s. change_lawful Falls (declare_object x b ((memory_of p.target).create s.objects (tree p.unit.structs b))))
+
+object_with_lawful : (p : Program) (x : Name) (b : CBase) (values : Init CValue) → Lawful (object_with p x b values)
+object_with_lawful p x b values = by_state_lawful _ (λ s. given_lawful p _ _ (λ made. change_lawful Falls (declare_object x b made)))
+
+assign_lawful : (p : Program) (l : Lvalue) (v : CValue) → Lawful (assign p l v)
+assign_lawful p l v = by_state_lawful _ (λ s. given_lawful p (stored p.target s l v) _ (λ objects. change_lawful Falls (λ u. record u { objects = objects })))
+
 module _ (p : Program) (functions : Calls) (l : LawfulCalls functions) where
   call_step_lawful : (c : FunctionCall) → Lawful (call_step p functions c)
   call_step_lawful c = by_state_lawful _ (λ s. given_lawful p _ _ (λ values. tick_lawful _ (call_lawful p functions l c.name values)))
@@ -84,8 +101,9 @@ module _ (p : Program) (functions : Calls) (l : LawfulCalls functions) where
     pub exec_lawful : (s : Stmt) → Lawful (exec p functions s)
     exec_lawful (Const x t e) = with_value_lawful p e (declaration p x t) (declaration_lawful p x t)
     exec_lawful (ConstCall x t c) = bind_lawful _ _ (call_step_lawful c) (λ result. tick_lawful _ (used_lawful p result (declaration p x t) (declaration_lawful p x t)))
-    exec_lawful (Object x b i) = troubled_lawful p Stuck
-    exec_lawful (Assign place e) = troubled_lawful p Stuck
+    exec_lawful (Object x b None) = tick_lawful _ (object_lawful p x b)
+    exec_lawful (Object x b (Some i)) = by_state_lawful _ (λ s. given_lawful p (eval_init p i s) _ (λ values. tick_lawful _ (object_with_lawful p x b values)))
+    exec_lawful (Assign place e) = by_state_lawful _ (λ s. given_lawful p (eval_place p place s) _ (λ l. given_lawful p (eval p e s) _ (λ v. tick_lawful _ (assign_lawful p l v))))
     exec_lawful (If e a) = with_truth_lawful p e _ (choice_lawful _ _ (block_lawful leave _ (exec_all_lawful a)) (give_lawful Falls))
     exec_lawful (IfElse e a b) = with_truth_lawful p e _ (choice_lawful _ _ (block_lawful leave _ (exec_all_lawful a)) (block_lawful leave _ (exec_all_lawful b)))
     exec_lawful (Forever body) = forever_lawful _ (block_lawful leave _ (exec_all_lawful body))
@@ -101,6 +119,9 @@ module _ (p : Program) (functions : Calls) (l : LawfulCalls functions) where
 
   -- ---- functions
 
+  gave_lawful : (p : Program) (v : CValue) → Lawful (gave p v)
+  gave_lawful p v = by_state_lawful _ (λ s. given_lawful p (alive s v) _ (λ a. give_lawful (Gave a)))
+
   function_value_lawful : (result : CType) (control : Control (Option CValue)) → Lawful (function_value p result control)
   function_value_lawful Void Falls = give_lawful Nothing
   function_value_lawful (Value s) Falls = give_lawful Missing
@@ -108,11 +129,11 @@ module _ (p : Program) (functions : Calls) (l : LawfulCalls functions) where
   function_value_lawful Void (Returned None) = give_lawful Nothing
   function_value_lawful (Value s) (Returned None) = troubled_lawful p Stuck
   function_value_lawful (Pointer constant base) (Returned None) = troubled_lawful p Stuck
-  function_value_lawful result (Returned (Some v)) = given_lawful p (as_assigned p.target result v) (λ a. give (Gave a)) (λ a. give_lawful (Gave a))
+  function_value_lawful result (Returned (Some v)) = given_lawful p (as_assigned p.target result v) (gave p) (gave_lawful p)
   function_value_lawful result Broke = troubled_lawful p Stuck
 
   function_body_lawful : (f : Function) (args : List CValue) → Lawful (function_body p functions f args)
-  function_body_lawful f args = bind_lawful _ (function_value p f.result) (in_frame_lawful (enter (bound f.params args)) pop_frame _ (block_lawful leave _ (exec_all_lawful f.body))) (function_value_lawful f.result)
+  function_body_lawful f args = bind_lawful _ (function_value p f.result) (in_frame_lawful (enter (bound f.params args)) pop _ (block_lawful leave _ (exec_all_lawful f.body))) (function_value_lawful f.result)
 
   pub function_call_lawful : (f : Function) (values : List CValue) → Lawful (function_call p functions f values)
   function_call_lawful f values = given_lawful p (as_arguments p.target (param_types f.params) values) (function_body p functions f) (function_body_lawful f)

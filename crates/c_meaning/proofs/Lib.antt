@@ -6,4 +6,5 @@ pub mod HeldNumbers
 pub mod Expressions
 pub mod Stuck
 pub mod Names
+pub mod Memory
 pub mod Watched

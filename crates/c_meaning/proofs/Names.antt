@@ -1,11 +1,12 @@
 -- A name that holds a value has the value's type, which is that of its declaration, and evaluates to it.
 use Rattle.std.proofs.Common.{◌≡◌, Bool, true, false, List, [], ◌∷◌, map, Option, Some, None, ℤ, Result, Ok, Err, refl, sym, subst, ap, ◌∙◌}
-use Rattle.std.specs.Prelude.{◌++◌, if◌then◌else◌}
+use Rattle.std.specs.Prelude.{◌++◌, ◌&&◌, ◌||◌, not, if◌then◌else◌}
 use Rattle.std.specs.Option.{option_map, option_and_then}
 use Rattle.iv_words.specs.Words.{same_word}
 use Rattle.c_ast.specs.Conversions.{convert_in}
-use Rattle.c_ast.specs.StaticTypes.{Entity, Arithmetic, ConstName, declared, of_entity, of_read}
+use Rattle.c_ast.specs.StaticTypes.{Entity, Arithmetic, PointerTo, ConstName, same_base, declared, of_entity, of_read}
 use Rattle.c_ast.specs.Targets.{table_of}
+use Rattle.c_ast.specs.declared.CBase.{CBase}
 use Rattle.c_ast.specs.declared.CKind.{CKind}
 use Rattle.c_ast.specs.declared.CKind.TheVariants.{Scalar}
 use Rattle.c_ast.specs.declared.CParam.{CParam}
@@ -13,11 +14,12 @@ use Rattle.c_ast.specs.declared.CType.{CType}
 use Rattle.c_ast.specs.declared.CType.TheVariants.{Void, Value, Pointer}
 use Rattle.c_ast.specs.declared.Target.{Target}
 use Rattle.c_ast.specs.Syntax.{Name, Read, Var}
-use Rattle.c_meaning.specs.Values.{Trouble, CValue, Num, Ptr, held_type, on_ok, typed, as_assigned, as_arguments}
+use Rattle.c_meaning.specs.Values.{Trouble, Stuck, Address, CValue, Num, Ptr, held_type, on_ok, typed, as_assigned, as_arguments}
 use Rattle.c_meaning.specs.State.{Program, Slot, Holding, Naming, CState}
 use Rattle.c_ast.specs.Names.{named}
 use Rattle.c_meaning.specs.Scopes.{value_in, name_value, slot_entity, local_entity, file_entity, declarations}
-use Rattle.c_meaning.specs.Expressions.{static_type, held, eval}
+use Rattle.c_meaning.specs.Places.{Lvalue, or_outer, alive, read}
+use Rattle.c_meaning.specs.Expressions.{static_type, eval}
 use Rattle.c_meaning.specs.Laws.{NamesAreAsDeclared}
 use Rattle.c_meaning.specs.Meant.{Declarations, and_name, of_params}
 use Rattle.c_meaning.specs.Runs.{param_types, bound}
@@ -36,8 +38,14 @@ pub name_type_is : (p : Program) (s : CState) (x : Name) (v : CValue) → name_v
 name_type_is p s x v e =
     ap (λ found. option_and_then of_read (option_map (of_entity p.unit.structs) found)) (declared_as_held s.own (map file_entity p.unit.objects) x v e)
 
-pub name_gives : (p : Program) (s : CState) (x : Name) (v : CValue) → name_value s x ≡ Some v → eval p (Read (Var x)) s ≡ Ok v
-name_gives p s x v e = ap held e
+-- a number needs no object
+found_gives : (p : Program) (s : CState) (kind : CKind) (v : ℤ) (found : Option Slot) (outer : Result Lvalue Trouble) → value_in found ≡ Some (Num kind v) → on_ok (or_outer p.unit.structs found outer) (read p.target s) ≡ Ok (Num kind v)
+found_gives p s kind v None outer e = let no : ⊥ = cc in absurd no
+found_gives p s kind v (Some (Naming o b)) outer e = let no : ⊥ = cc in absurd no
+found_gives p s kind v (Some (Holding u)) outer e = let is : u ≡ Num kind v = cc in ap (alive s) is
+
+pub name_gives : (p : Program) (s : CState) (x : Name) (kind : CKind) (v : ℤ) → name_value s x ≡ Some (Num kind v) → eval p (Read (Var x)) s ≡ Ok (Num kind v)
+name_gives p s x kind v e = found_gives p s kind v (named s.own x) _ e
 
 -- ---- names are as declared
 
@@ -45,11 +53,17 @@ typed_type : (kind : CKind) (r : Option ℤ) (a : CValue) → typed kind r ≡ O
 typed_type kind None a e = let no : ⊥ = cc in absurd no
 typed_type kind (Some v) a e = let is : Num kind v ≡ a = cc in ap held_type (sym is)
 
+given_as : (constant : Bool) (base : CBase) (to : Address) (a : CValue) (test : Bool) → (if test then (let r : Result CValue Trouble = Ok (Ptr constant base to) in r) else Err Stuck) ≡ Ok a
+    → (x : Name) (scope : Declarations) → (x, ConstName (held_type a)) ∷ scope ≡ (x, ConstName (PointerTo constant base)) ∷ scope
+given_as constant base to a true e x scope = let is : Ptr constant base to ≡ a = cc in ap (λ v. (x, ConstName (held_type v)) ∷ scope) (sym is)
+given_as constant base to a false e x scope = let no : ⊥ = cc in absurd no
+
 assigned_as : (t : Target) (type : CType) (v a : CValue) → as_assigned t type v ≡ Ok a → (x : Name) (scope : Declarations) → (x, ConstName (held_type a)) ∷ scope ≡ and_name x type scope
 assigned_as t (Value s) (Num kind v) a e x scope = ap (λ of_value. (x, ConstName of_value) ∷ scope) (typed_type (Scalar s) (convert_in (table_of t) (Scalar s) v) a e)
 assigned_as t (Value s) (Ptr constant base to) a e x scope = let no : ⊥ = cc in absurd no
 assigned_as t Void v a e x scope = let no : ⊥ = cc in absurd no
-assigned_as t (Pointer constant base) v a e x scope = let no : ⊥ = cc in absurd no
+assigned_as t (Pointer constant base) (Num kind v) a e x scope = let no : ⊥ = cc in absurd no
+assigned_as t (Pointer constant base) (Ptr c from to) a e x scope = given_as constant base to a (same_base from base && (not c || constant)) e x scope
 
 -- one argument, and those after it
 first_as : (t : Target) (x : CParam) (xs : List CParam) (v : CValue) (first : Result CValue Trouble) → as_assigned t x.ty v ≡ first → (rest : Result (List CValue) Trouble)

@@ -1,6 +1,6 @@
 -- Units of the forms that have a meaning are never stuck, where their expressions and calls are typed.
 use Rattle.std.proofs.Common.{◌≡◌, ◌≢◌, ℕ, ℤ, ◌<◌, ◌^◌, Bool, true, false, IsTrue, List, [], ◌∷◌, map, Option, Some, None, Result, Ok, Err, arith, refl, sym, subst, ap, ◌∙◌}
-use Rattle.std.specs.Prelude.{⊤, All, ◌++◌, ◌&&◌, not, if◌then◌else◌, unsigned_abs}
+use Rattle.std.specs.Prelude.{⊤, All, ◌++◌, ◌&&◌, not, if◌then◌else◌, unsigned_abs, drop}
 use Rattle.std.specs.Option.{option_map}
 use Rattle.std.specs.List.{find}
 use Rattle.std.proofs.lemmas.Int.{ints}
@@ -13,10 +13,9 @@ use Rattle.iv_script.specs.declared.End.TheVariants.{Stopped}
 use Rattle.iv_script.specs.declared.Plain.{Plain}
 use Rattle.iv_script.specs.declared.Script.{Script}
 use Rattle.iv_script.specs.Scripts.{plain_fits, values_fit, export_of, found_fits, Fits}
-use Rattle.step_semantics.specs.Steps.{World, FailedCheck, Part, give, bind, tick, block}
+use Rattle.step_semantics.specs.Steps.{World, FailedCheck, Part, give, bind, tick, change, block}
 use Rattle.step_semantics.specs.Control.{Control, Falls, Broke, Returned}
 use Rattle.step_semantics.specs.Imports.{import_call}
-use Rattle.step_semantics.specs.Frames.{without, pop_frame}
 use Rattle.step_semantics.specs.Safe.{Keeps}
 use Rattle.step_semantics.proofs.FrameLaws.{keeps_in_frame}
 use Rattle.step_semantics.proofs.Keeping.{Given, keeps_weaker, keeps_after, keeps_tick, keeps_left, keeps_also, keeps_forever, keeps_choice, keeps_import_call, keeps_run}
@@ -36,13 +35,17 @@ use Rattle.c_ast.specs.StaticTypes.{ValueType, Arithmetic, ConstName, declared, 
 use Rattle.c_ast.specs.Syntax.{Name, Expr, FunctionCall, Stmt, Const, ConstCall, Object, Assign, If, IfElse, Forever, Break, Return, Block, Call, Stmts, Nil, Cons, FileObject, Function, TranslationUnit}
 use Rattle.c_ast.specs.Targets.{TargetTable, table_of}
 use Rattle.c_meaning.specs.Values.{Trouble, Undefined, Stuck, CValue, Num, Ptr, held_type, is_true, on_ok, as_kind, as_assigned, as_arguments}
-use Rattle.c_meaning.specs.State.{Program, Frame, Holding, CState, at_rest, seen, declare, leave, enter, in_own_frame}
+use Rattle.c_meaning.specs.State.{Program, Frame, Holding, CState, at_rest, seen, declare, leave, enter, returned_to, pop, in_own_frame}
+use Rattle.c_meaning.specs.Memory.{CObjects, answered}
+use Rattle.c_memory.specs.Access.{Fault}
+use Rattle.c_ast.specs.Structs.{tree}
+use Rattle.type_trees.specs.Trees.{count}
 use Rattle.c_meaning.specs.Scopes.{local_entity, file_entity, declarations}
 use Rattle.c_meaning.specs.Expressions.{static_type, eval, eval_all}
 use Rattle.c_meaning.specs.ExpressionLaws.{IsTyped, SlotIsTyped, HoldsValue}
-use Rattle.c_meaning.specs.Calls.{given, CallResult, Nothing, Missing, Gave, Calls, no_functions, pieces_of, reply_shape, reply_value, outside_with, outside, stop_at, stop_call, extern_call, call_found, call}
+use Rattle.c_meaning.specs.Calls.{given, CallResult, Nothing, Missing, Gave, Calls, no_functions, pieces_of, reply_shape, written_shape, reply_value, write_replies, reply_written, outside_with, outside, stop_at, stop_call, extern_call, call_found, call}
 use Rattle.c_meaning.specs.Statements.{with_value, with_truth, call_step, used, declaration, exec, exec_all}
-use Rattle.c_meaning.specs.Runs.{function_value, param_types, bound, function_body, function_call, with_function, entry_result, entry_values, entered, entry_among, entry, first_state_of, run_from}
+use Rattle.c_meaning.specs.Runs.{gave, function_value, param_types, bound, function_body, function_call, with_function, entry_result, entry_values, entered, entry_among, entry, first_state_of, run_from}
 use Rattle.c_ast.specs.Signatures.{IsScalar, IsResult, Signature, stop_signature, extern_signature, function_signature}
 use Rattle.c_meaning.specs.Meant.{Declarations, and_name, behind, of_params, earlier_signature, or_earlier, signature_of, IsNumber, AreGiven, IsCall, IsMeant, AreMeant, FunctionIsMeant, FunctionsAreMeant, ExternIsMeant, UnitIsMeant}
 use Rattle.c_meaning.specs.Laws.{no_site, watched, IsNotStuck, MeantUnitsAreNeverStuck}
@@ -135,12 +138,23 @@ module _ (u : TranslationUnit) (target : Target) where
       good_on_ok (Holds ty) (AreHeld (ty ∷ ts)) (as_assigned target ty v) (λ a. on_ok (as_arguments target ts vs) (λ rest. Ok (a ∷ rest))) (assigned_good ty h.0 v h.1)
       (λ a holds. good_on_ok (AreHeld ts) (AreHeld (ty ∷ ts)) (as_arguments target ts vs) (λ rest. Ok (a ∷ rest)) (arguments_good ts vs h.2) (λ rest held. (holds, held)))
 
-  pieces_good : (ts : List CType) (vs : List CValue) → AreHeld ts vs → Good (λ pieces. ⊤) (pieces_of vs)
-  pieces_good [] [] h = tt
-  pieces_good [] (v ∷ vs) h = absurd h
-  pieces_good (ty ∷ ts) [] h = absurd h
-  pieces_good (ty ∷ ts) (Num k v ∷ vs) h = good_on_ok (λ pieces. ⊤) (λ pieces. ⊤) (pieces_of vs) _ (pieces_good ts vs h.1) (λ pieces x. tt)
-  pieces_good (ty ∷ ts) (Ptr constant base to ∷ vs) h = absurd (holds_typed ty (Ptr constant base to) h.0)
+  pieces_good : (objects : CObjects) (ts : List CType) (vs : List CValue) → AreHeld ts vs → Good (λ pieces. ⊤) (pieces_of target u.structs objects vs)
+  pieces_good objects [] [] h = tt
+  pieces_good objects [] (v ∷ vs) h = absurd h
+  pieces_good objects (ty ∷ ts) [] h = absurd h
+  pieces_good objects (ty ∷ ts) (Num k v ∷ vs) h = good_on_ok (λ pieces. ⊤) (λ pieces. ⊤) (pieces_of target u.structs objects vs) _ (pieces_good objects ts vs h.1) (λ pieces x. tt)
+  pieces_good objects (ty ∷ ts) (Ptr constant base to ∷ vs) h = absurd (holds_typed ty (Ptr constant base to) h.0)
+
+  answered_good : {A : Type 0} (r : Result A Fault) → Good (λ a. ⊤) (answered r)
+  answered_good (Ok a) = tt
+  answered_good (Err fault) = tt
+
+  written_good : (args : List CValue) (vs : List ℤ) (objects : CObjects) → Good (λ made. ⊤) (write_replies target u.structs args vs objects)
+  written_good [] vs objects = tt
+  written_good (Num k v ∷ args) vs objects = written_good args vs objects
+  written_good (Ptr true b to ∷ args) vs objects = written_good args vs objects
+  written_good (Ptr false b to ∷ args) vs objects =
+      good_on_ok (λ made. ⊤) (λ made. ⊤) (answered _) (write_replies target u.structs args (drop (count (tree u.structs b)) vs)) (answered_good _) (λ made x. written_good args (drop (count (tree u.structs b)) vs) made)
 
   -- ---- calls of what is outside
 
@@ -149,32 +163,46 @@ module _ (u : TranslationUnit) (target : Target) where
   Gives result Missing = ⊤
   Gives result (Gave v) = Holds result v
 
+  -- the names of the function that runs, and of those that wait, are as they were
+  record SameNames (s v : CState) : Type 0 where
+    own : v.own ≡ s.own
+    callers : v.callers ≡ s.callers
+
   abbrev CallPost : CType → CState → CallResult → CState → Type 0
-  CallPost result s value v = Gives result value × (v ≡ s)
+  CallPost result s value v = Gives result value × SameNames s v
 
   plain_held : (s : CScalar) (v : ℤ) → IsTrue (plain_fits (plain_of s) v) → IsTrue (can_hold t (Scalar s) v)
   plain_held Truth v h = grind (arith, ints)
   plain_held (Int kind) v h = h
 
-  -- a reply of this shape is one of the result's type
-  abbrev IsShape : CType → List Plain → Type 0
-  IsShape result shape = (reply : List ℤ) → IsTrue (values_fit shape reply) → Good (Gives result) (reply_value result reply)
+  -- a reply of this shape, with more behind it, is one of the result's type
+  abbrev IsShape : CType → List Plain → List Plain → Type 0
+  IsShape result more shape = (reply : List ℤ) → IsTrue (values_fit (shape ++ more) reply) → Good (λ r. Gives result r.0) (reply_value result reply)
 
-  value_shape : (s : CScalar) → IsShape (Value s) (plain_of s ∷ [])
-  value_shape s [] fits = let no : ⊥ = cc in absurd no
-  value_shape s (v ∷ vs) fits = (plain_held s v (and_both (plain_fits (plain_of s) v) (values_fit [] vs) fits).0, refl)
+  value_shape : (s : CScalar) (more : List Plain) → IsShape (Value s) more (plain_of s ∷ [])
+  value_shape s more [] fits = let no : ⊥ = cc in absurd no
+  value_shape s more (v ∷ vs) fits = (plain_held s v (and_both (plain_fits (plain_of s) v) (values_fit more vs) fits).0, refl)
 
-  shape_good : (result : CType) → IsResult result → Good (IsShape result) (reply_shape result)
-  shape_good Void is = λ reply fits. refl
-  shape_good (Value s) is = value_shape s
-  shape_good (Pointer constant base) is = absurd is
+  shape_good : (result : CType) (more : List Plain) → IsResult result → Good (IsShape result more) (reply_shape result)
+  shape_good Void more is = λ reply fits. refl
+  shape_good (Value s) more is = value_shape s more
+  shape_good (Pointer constant base) more is = absurd is
+
+  same_names : (s v : CState) → v ≡ s → SameNames s v
+  same_names s v same = record { own = ap (λ x. x.own) same; callers = ap (λ x. x.callers) same }
+
+  written_keeps : (result : CType) (args : List CValue) (reply : CallResult × List ℤ) → Gives result reply.0 → (s v : CState) → v ≡ s → (n : ℕ) (w : World) → Keeps IsNotStuck (CallPost result s) (reply_written p args reply n w v)
+  written_keeps result args reply gives s v same n w =
+      good_given (λ made. ⊤) (CallPost result s) (write_replies target u.structs args reply.1 v.objects) (λ objects. change reply.0 (λ x. record x { objects = objects })) n w v (written_good args reply.1 v.objects)
+      (λ made x. (gives, record { own = (same_names s v same).own; callers = (same_names s v same).callers }))
 
   outside_keeps : (x : CExtern) → IsResult x.result → (args : List CValue) → AreHeld x.params args → (n : ℕ) (w : World) (s : CState) → Keeps IsNotStuck (CallPost x.result s) (outside p x args n w s)
   outside_keeps x is args held n w s =
-      good_given (λ pieces. ⊤) (CallPost x.result s) (pieces_of args) (outside_with p x) n w s (pieces_good x.params args held)
-      (λ pieces z. good_given (IsShape x.result) (CallPost x.result s) (reply_shape x.result) (λ shape. bind (import_call (seen p) (outer_name x.name) pieces shape) (λ reply. given p (reply_value x.result reply) give)) n w s (shape_good x.result is)
-      (λ shape good. keeps_after IsNotStuck (Given s shape) (CallPost x.result s) _ (λ reply. given p (reply_value x.result reply) give) (keeps_import_call IsNotStuck (seen p) (λ e. cc) (λ e. cc) s (outer_name x.name) pieces shape n w)
-      (λ reply v replied m later. good_given (Gives x.result) (CallPost x.result s) (reply_value x.result reply) give m later v (good reply replied.fits) (λ value gives. (gives, replied.same)))))
+      let more : List Plain = written_shape u.structs args in
+      good_given (λ pieces. ⊤) (CallPost x.result s) (pieces_of target u.structs s.objects args) (outside_with p x args) n w s (pieces_good s.objects x.params args held)
+      (λ pieces z. good_given (IsShape x.result more) (CallPost x.result s) (reply_shape x.result) (λ shape. bind (import_call (seen p) (outer_name x.name) pieces (shape ++ more)) (λ reply. given p (reply_value x.result reply) (reply_written p args))) n w s (shape_good x.result more is)
+      (λ shape good. keeps_after IsNotStuck (Given s (shape ++ more)) (CallPost x.result s) _ (λ reply. given p (reply_value x.result reply) (reply_written p args)) (keeps_import_call IsNotStuck (seen p) (λ e. cc) (λ e. cc) s (outer_name x.name) pieces (shape ++ more) n w)
+      (λ reply v replied m later. good_given (λ r. Gives x.result r.0) (CallPost x.result s) (reply_value x.result reply) (reply_written p args) m later v (good reply replied.fits) (λ r gives. written_keeps x.result args r gives s v replied.same m later))))
 
   extern_keeps : (x : CExtern) → IsResult x.result → (values : List CValue) → AreNumbers x.params values → (n : ℕ) (w : World) (s : CState) → Keeps IsNotStuck (CallPost x.result s) (extern_call p x values n w s)
   extern_keeps x is values numbers n w s = good_given (AreHeld x.params) (CallPost x.result s) (as_arguments target x.params values) (outside p x) n w s (arguments_good x.params values numbers) (λ args held. outside_keeps x is args held n w s)
@@ -243,8 +271,13 @@ module _ (u : TranslationUnit) (target : Target) where
     values : All (λ n. HoldsValue ⊥ n.1) s.own
     waiting : s.callers ≡ callers
 
-  same_within : (scope : Declarations) (callers : List Frame) (s v : CState) → Within scope callers s → v ≡ s → Within scope callers v
-  same_within scope callers s v inv same = subst (Within scope callers) (sym same) inv
+  same_within : (scope : Declarations) (callers : List Frame) (s v : CState) → Within scope callers s → SameNames s v → Within scope callers v
+  same_within scope callers s v inv same = record {
+    typed = subst (All (λ n. SlotIsTyped t n.1)) (sym same.own) inv.typed;
+    names = ap (map local_entity) same.own ∙ inv.names;
+    values = subst (All (λ n. HoldsValue ⊥ n.1)) (sym same.own) inv.values;
+    waiting = same.callers ∙ inv.waiting;
+  }
 
   comes_good : (kind : CKind) (said : Option ValueType) (r : Result CValue Trouble) → Comes t ⊥ said r → said ≡ Some (Arithmetic kind) → Good Typed r
   comes_good kind said (Ok v) h e = number_typed kind v h.typed (h.agrees (Arithmetic kind) e)
@@ -409,8 +442,8 @@ module _ (u : TranslationUnit) (target : Target) where
   bound_names (x ∷ xs) [] h = absurd h
   bound_names (x ∷ xs) (a ∷ args) h = ap (λ ds. (x.name, ConstName (held_type a)) ∷ ds) (bound_names xs args h.1) ∙ bound_named x.name x.ty a (of_params xs) h.0
 
-  popped_same : (s v : CState) → v.callers ≡ s.own ∷ s.callers → pop_frame v ≡ s
-  popped_same s v e = ap (without v.own) e
+  popped_same : (s v : CState) → v.callers ≡ s.own ∷ s.callers → SameNames s (pop v)
+  popped_same s v e = record { own = ap (λ waiting. (returned_to waiting v).own) e; callers = ap (λ waiting. (returned_to waiting v).callers) e }
 
   -- control as it leaves a function
   abbrev Gone : CType → Control (Option CValue) → Type 0
@@ -418,7 +451,11 @@ module _ (u : TranslationUnit) (target : Target) where
   Gone result Broke = ⊥
   Gone result (Returned value) = Returns result value
 
-  value_keeps : (result : CType) (control : Control (Option CValue)) → Gone result control → (s v : CState) → v ≡ s → (n : ℕ) (w : World) → Keeps IsNotStuck (CallPost result s) (function_value p result control n w v)
+  gave_keeps : (result : CType) (a : CValue) → Holds result a → (s v : CState) → SameNames s v → (n : ℕ) (w : World) → Keeps IsNotStuck (CallPost result s) (gave p a n w v)
+  gave_keeps result (Num k a) holds s v same n w = (holds, same)
+  gave_keeps result (Ptr constant base to) holds s v same n w = absurd (holds_typed result (Ptr constant base to) holds)
+
+  value_keeps : (result : CType) (control : Control (Option CValue)) → Gone result control → (s v : CState) → SameNames s v → (n : ℕ) (w : World) → Keeps IsNotStuck (CallPost result s) (function_value p result control n w v)
   value_keeps Void Falls h s v same n w = (refl, same)
   value_keeps (Value y) Falls h s v same n w = (tt, same)
   value_keeps (Pointer constant base) Falls h s v same n w = (tt, same)
@@ -427,14 +464,14 @@ module _ (u : TranslationUnit) (target : Target) where
   value_keeps (Value y) (Returned None) h s v same n w = let no : ⊥ = cc in absurd no
   value_keeps (Pointer constant base) (Returned None) h s v same n w = let no : ⊥ = cc in absurd no
   value_keeps result (Returned (Some value)) h s v same n w =
-      good_given (Holds result) (CallPost result s) (as_assigned target result value) (λ a. give (Gave a)) n w v (assigned_good result h.0 value h.1) (λ a holds. (holds, same))
+      good_given (Holds result) (CallPost result s) (as_assigned target result value) (gave p) n w v (assigned_good result h.0 value h.1) (λ a holds. gave_keeps result a holds s v same n w)
 
   module _ (no_objects : u.objects ≡ []) (externs : All ExternIsMeant u.externs) where
     module _ (earlier : List Function) (functions : Calls) (keep : CallsKeep earlier functions) (f : Function) (meant : FunctionIsMeant u target earlier f) where
       abbrev LeftIn : CState → Control (Option CValue) → CState → Type 0
       LeftIn s = Left no_objects externs earlier functions keep f.result (s.own ∷ s.callers) (of_params f.params) false
 
-      gone : (s : CState) (control : Control (Option CValue)) (v : CState) → LeftIn s control v → Gone f.result control × (pop_frame v ≡ s)
+      gone : (s : CState) (control : Control (Option CValue)) (v : CState) → LeftIn s control v → Gone f.result control × SameNames s (pop v)
       gone s Falls v h = (tt, popped_same s v h.waiting)
       gone s Broke v h = let no : ⊥ = (let broke : IsTrue false = h.0 in cc) in absurd no
       gone s (Returned value) v h = (h.0, popped_same s v h.1.waiting)
@@ -443,10 +480,10 @@ module _ (u : TranslationUnit) (target : Target) where
       body_keeps args held n w s =
           let inner : CState = enter (bound f.params args) s in
           let body : Part CState (Control (Option CValue)) = block leave (exec_all p functions f.body) in
-          let mid : Control (Option CValue) → CState → Type 0 = λ control v. Gone f.result control × (v ≡ s) in
+          let mid : Control (Option CValue) → CState → Type 0 = λ control v. Gone f.result control × SameNames s v in
           let within : Within (of_params f.params) (s.own ∷ s.callers) inner = record { typed = bound_typed f.params args held; names = bound_names f.params args held; values = bound_values f.params args; waiting = refl } in
           keeps_after IsNotStuck mid (CallPost f.result s) (in_own_frame (bound f.params args) body n w s) (function_value p f.result)
-          (keeps_in_frame IsNotStuck (LeftIn s) mid (enter (bound f.params args)) pop_frame body n w s (gone s)
+          (keeps_in_frame IsNotStuck (LeftIn s) mid (enter (bound f.params args)) pop body n w s (gone s)
           (left_keeps no_objects externs earlier functions keep f.result (s.own ∷ s.callers) f.body (of_params f.params) false meant.body n w inner within))
           (λ control v h m later. value_keeps f.result control h.0 s v h.1 m later)
 
@@ -552,7 +589,7 @@ module _ (u : TranslationUnit) (target : Target) where
 
   -- ---- runs
 
-  run_not_stuck : UnitIsMeant u target → (script : Script) → Fits script (c_exports u) → (n : ℕ) (os : List FileObject) → os ≡ [] → (run_from p (first_state_of os) script n).end ≢ Stopped no_site
+  run_not_stuck : UnitIsMeant u target → (script : Script) → Fits script (c_exports u) → (n : ℕ) (os : List FileObject) → os ≡ [] → (run_from p (first_state_of p os) script n).end ≢ Stopped no_site
   run_not_stuck meant script fits n [] none e =
       keeps_run IsNotStuck (λ s. ⊤) (c_exports u) (entry p)
       (λ entry_call call_fits m w s x. entry_among_keeps meant.objects meant.externs entry_call.name entry_call.values m w s u.functions [] (no_functions p) (nothing_earlier meant.objects meant.externs) meant.functions call_fits)

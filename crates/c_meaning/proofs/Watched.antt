@@ -2,7 +2,7 @@
 -- is shown, and in nothing else.
 use Rattle.std.proofs.Common.{◌≡◌, ◌≢◌, ℕ, zero, suc, ℤ, Bool, true, false, List, [], ◌∷◌, Option, Some, None, refl, ap, ◌∙◌}
 use Rattle.std.specs.List.{find}
-use Rattle.std.specs.Prelude.{⊤, ◌&&◌, not, if◌then◌else◌, Result, Ok, Err}
+use Rattle.std.specs.Prelude.{⊤, ◌++◌, ◌&&◌, not, if◌then◌else◌, Result, Ok, Err}
 use Rattle.iv_words.specs.Words.{same_word}
 use Rattle.iv_words.specs.declared.IntKind.TheVariants.{U32}
 use Rattle.iv_script.specs.declared.EntryCall.{EntryCall}
@@ -10,27 +10,33 @@ use Rattle.iv_script.specs.declared.End.TheVariants.{Stopped}
 use Rattle.iv_script.specs.declared.Piece.{Piece}
 use Rattle.iv_script.specs.declared.Reason.TheVariants.{NoValue}
 use Rattle.iv_script.specs.declared.Script.{Script}
-use Rattle.step_semantics.specs.Steps.{World, Progress, Finished, Halted, Exhausted, Part, give, after, bind, tick, by_state, left, block}
+use Rattle.step_semantics.specs.Steps.{World, Progress, Finished, Halted, Exhausted, Part, after, bind, tick, by_state, left, block}
 use Rattle.step_semantics.specs.Control.{Control, Falls, Broke, Returned, onward, again, turns, forever}
-use Rattle.step_semantics.specs.Frames.{pop_frame, in_frame}
+use Rattle.step_semantics.specs.Frames.{in_frame}
 use Rattle.step_semantics.specs.Imports.{import_call}
 use Rattle.step_semantics.specs.Runs.{end_of, entry_calls, outcome, start}
 use Rattle.step_semantics.specs.Safe.{Keeps}
+use Rattle.c_memory.specs.Initializers as values
+use Rattle.c_ast.specs.Structs.{tree}
+use Rattle.c_ast.specs.declared.CBase.{CBase}
 use Rattle.c_ast.specs.declared.CExtern.{CExtern}
 use Rattle.c_ast.specs.declared.CScalar.TheVariants.{Int}
 use Rattle.c_ast.specs.declared.CType.{CType}
 use Rattle.c_ast.specs.declared.CType.TheVariants.{Void, Value, Pointer}
 use Rattle.c_ast.specs.declared.Target.{Target}
-use Rattle.c_ast.specs.Syntax.{Name, Expr, Number, Read, Address, Unary, Binary, Cast, Cond, Var, At, Member, Element, FunctionCall, Stmt, Const, ConstCall, Object, Assign, If, IfElse, Forever, Break, Return, Block, Call, Stmts, Nil, Cons, FileObject, Function, TranslationUnit}
+use Rattle.c_ast.specs.Syntax.{Name, Expr, Number, Read, Address, Unary, Binary, Cast, Cond, Place, Var, At, Member, Element, Init, One, Zero, Many as Row, Inits, NoInits, MoreInits, FunctionCall, Stmt, Const, ConstCall, Object, Assign, If, IfElse, Forever, Break, Return, Block, Call, Stmts, Nil, Cons, FileObject, Function, TranslationUnit}
 use Rattle.c_ast.specs.Names.{outer_name, stop_name}
 use Rattle.c_ast.specs.Targets.{TargetTable, table_of}
 use Rattle.c_meaning.specs.Values.{Trouble, Undefined, Stuck, CValue, Num, Ptr, is_true, on_ok, as_assigned, as_arguments}
+use Rattle.c_meaning.specs.Memory.{CObjects}
+use Rattle.c_meaning.specs.Places.{Lvalue, pointee, member_of, element_of, alive, read, address_of, cast}
+use Rattle.c_meaning.specs.Initializers.{eval_init, eval_inits, made_with}
 use Rattle.c_meaning.specs.Operators.{unary, binary}
-use Rattle.c_meaning.specs.State.{Program, program_of, CState, enter, leave, seen}
-use Rattle.c_meaning.specs.Expressions.{static_type, as_common, eval, eval_all}
-use Rattle.c_meaning.specs.Calls.{troubled, given, CallResult, Nothing, Missing, Gave, Calls, no_functions, stop_at, stop_call, pieces_of, reply_shape, reply_value, outside_with, outside, call_found, call}
-use Rattle.c_meaning.specs.Statements.{with_value, with_truth, call_step, used, declaration, exec, exec_all}
-use Rattle.c_meaning.specs.Runs.{function_value, param_types, bound, function_body, function_call, with_function, entry_result, entry_values, entered, entry_among, entry, first_state_of, run_from}
+use Rattle.c_meaning.specs.State.{Program, program_of, CState, at_rest, enter, leave, pop, seen}
+use Rattle.c_meaning.specs.Expressions.{static_type, as_common, eval, eval_place, eval_all}
+use Rattle.c_meaning.specs.Calls.{troubled, given, CallResult, Nothing, Missing, Gave, Calls, no_functions, stop_at, stop_call, pieces_of, reply_shape, written_shape, reply_value, write_replies, reply_written, outside_with, outside, call_found, call}
+use Rattle.c_meaning.specs.Statements.{with_value, with_truth, call_step, used, declaration, object_with, stored, assign, exec, exec_all}
+use Rattle.c_meaning.specs.Runs.{gave, function_value, param_types, bound, function_body, function_call, with_function, entry_result, entry_values, entered, entry_among, entry, file_objects, first_state, run_from}
 use Rattle.c_meaning.specs.Laws.{no_site, watched, IsNotStuck, WatchedRunsAreRuns}
 
 -- not stuck, whatever else it came to
@@ -72,8 +78,8 @@ left_same leave s (Exhausted w) r' e moves = ap (left leave s) (e tt)
 agree_block : {A : Type 0} {part part' : Part CState A} → Agree part part' → Agree (block leave part) (block leave part')
 agree_block {A} {part} {part'} e = record { same = λ n w s moves. left_same leave s (part n w s) (part' n w s) (e.same n w s) moves }
 
-agree_in_frame : {A : Type 0} (push : CState → CState) {part part' : Part CState A} → Agree part part' → Agree (in_frame push pop_frame part) (in_frame push pop_frame part')
-agree_in_frame push {part} {part'} e = record { same = λ n w s moves. left_same (λ before end. pop_frame end) s (part n w (push s)) (part' n w (push s)) (e.same n w (push s)) moves }
+agree_in_frame : {A : Type 0} (push : CState → CState) {part part' : Part CState A} → Agree part part' → Agree (in_frame push pop part) (in_frame push pop part')
+agree_in_frame push {part} {part'} e = record { same = λ n w s moves. left_same (λ before end. pop end) s (part n w (push s)) (part' n w (push s)) (e.same n w (push s)) moves }
 
 agree_choice : {A : Type 0} (test : Bool) {c d c' d' : Part CState A} → Agree c c' → Agree d d' → Agree (if test then c else d) (if test then c' else d')
 agree_choice true e f = e
@@ -117,21 +123,43 @@ module _ (u : TranslationUnit) (target : Target) where
 
   -- ---- expressions
 
-  eval_same : (e : Expr) (s : CState) → eval q e s ≡ eval p e s
-  eval_same (Number v suffix) s = refl
-  eval_same (Read (Var x)) s = refl
-  eval_same (Read (At e)) s = refl
-  eval_same (Read (Member place m)) s = refl
-  eval_same (Read (Element place e)) s = refl
-  eval_same (Address place) s = refl
-  eval_same (Unary op e) s = ap (λ r. on_ok r (unary t op)) (eval_same e s)
-  eval_same (Binary op a b) s =
-      ap (λ r. let x : Result CValue Trouble = on_ok r (λ v. binary t op v (eval q b s)) in x) (eval_same a s) ∙ ap (λ r. let x : Result CValue Trouble = on_ok (eval p a s) (λ v. binary t op v r) in x) (eval_same b s)
-  eval_same (Cast to e) s = ap (λ r. on_ok r (as_assigned target to)) (eval_same e s)
-  eval_same (Cond c a b) s =
-      ap (λ r. let x : Result CValue Trouble = on_ok (on_ok r is_true) (λ holds. as_common t (static_type p s (Cond c a b)) (if holds then eval q a s else eval q b s)) in x) (eval_same c s)
-      ∙ ap (λ r. let x : Result CValue Trouble = on_ok (on_ok (eval p c s) is_true) (λ holds. as_common t (static_type p s (Cond c a b)) (if holds then r else eval q b s)) in x) (eval_same a s)
-      ∙ ap (λ r. let x : Result CValue Trouble = on_ok (on_ok (eval p c s) is_true) (λ holds. as_common t (static_type p s (Cond c a b)) (if holds then eval p a s else r)) in x) (eval_same b s)
+  on_ok_same : {A B : Type 0} (r : Result A Trouble) {next next' : A → Result B Trouble} → ((a : A) → next' a ≡ next a) → on_ok r next' ≡ on_ok r next
+  on_ok_same (Ok a) h = h a
+  on_ok_same (Err trouble) h = refl
+
+  mutual
+    eval_same : (e : Expr) (s : CState) → eval q e s ≡ eval p e s
+    eval_same (Number v suffix) s = refl
+    eval_same (Read place) s = ap (λ r. on_ok r (read target s)) (place_same place s)
+    eval_same (Address place) s = ap (λ r. on_ok r address_of) (place_same place s)
+    eval_same (Unary op e) s = ap (λ r. on_ok r (unary t op)) (eval_same e s)
+    eval_same (Binary op a b) s =
+        ap (λ r. let x : Result CValue Trouble = on_ok r (λ v. binary t op v (eval q b s)) in x) (eval_same a s) ∙ ap (λ r. let x : Result CValue Trouble = on_ok (eval p a s) (λ v. binary t op v r) in x) (eval_same b s)
+    eval_same (Cast to e) s = ap (λ r. on_ok r (cast target s to)) (eval_same e s)
+    eval_same (Cond c a b) s =
+        ap (λ r. let x : Result CValue Trouble = on_ok (on_ok r is_true) (λ holds. as_common t (static_type p s (Cond c a b)) (if holds then eval q a s else eval q b s)) in x) (eval_same c s)
+        ∙ ap (λ r. let x : Result CValue Trouble = on_ok (on_ok (eval p c s) is_true) (λ holds. as_common t (static_type p s (Cond c a b)) (if holds then r else eval q b s)) in x) (eval_same a s)
+        ∙ ap (λ r. let x : Result CValue Trouble = on_ok (on_ok (eval p c s) is_true) (λ holds. as_common t (static_type p s (Cond c a b)) (if holds then eval p a s else r)) in x) (eval_same b s)
+
+    place_same : (place : Place) (s : CState) → eval_place q place s ≡ eval_place p place s
+    place_same (Var x) s = refl
+    place_same (At e) s = ap (λ r. on_ok r (pointee u.structs)) (eval_same e s)
+    place_same (Member place m) s = ap (λ r. on_ok r (member_of target m)) (place_same place s)
+    place_same (Element place e) s =
+        ap (λ r. let x : Result Lvalue Trouble = on_ok r (λ array. on_ok (eval q e s) (element_of target array)) in x) (place_same place s)
+        ∙ ap (λ r. let x : Result Lvalue Trouble = on_ok (eval_place p place s) (λ array. on_ok r (element_of target array)) in x) (eval_same e s)
+
+  mutual
+    init_same : (i : Init) (s : CState) → eval_init q i s ≡ eval_init p i s
+    init_same (One e) s = ap (λ r. let x : Result (values.Init CValue) Trouble = on_ok r (λ v. Ok (values.One v)) in x) (eval_same e s)
+    init_same Zero s = refl
+    init_same (Row is) s = ap (λ r. let x : Result (values.Init CValue) Trouble = on_ok r (λ vs. Ok (values.Braces vs)) in x) (inits_same is s)
+
+    inits_same : (is : Inits) (s : CState) → eval_inits q is s ≡ eval_inits p is s
+    inits_same NoInits s = refl
+    inits_same (MoreInits i is) s =
+        ap (λ r. let x : Result (values.Inits CValue) Trouble = on_ok r (λ v. on_ok (eval_inits q is s) (λ vs. Ok (values.More v vs))) in x) (init_same i s)
+        ∙ ap (λ r. let x : Result (values.Inits CValue) Trouble = on_ok (eval_init p i s) (λ v. on_ok r (λ vs. Ok (values.More v vs))) in x) (inits_same is s)
 
   eval_all_same : (es : List Expr) (s : CState) → eval_all q es s ≡ eval_all p es s
   eval_all_same [] s = refl
@@ -151,14 +179,20 @@ module _ (u : TranslationUnit) (target : Target) where
   stop_agree (Ptr constant base to ∷ []) = troubled_agree Stuck
   stop_agree (v ∷ x ∷ vs) = troubled_agree Stuck
 
-  replied_agree : (x : CExtern) (pieces : List Piece) → Agree (outside_with p x pieces) (outside_with q x pieces)
-  replied_agree x pieces =
-      given_agree (reply_shape x.result) {next = λ shape. bind (import_call (seen p) (outer_name x.name) pieces shape) (λ reply. given p (reply_value x.result reply) give)} {next' = λ shape. bind (import_call (seen q) (outer_name x.name) pieces shape) (λ reply. given q (reply_value x.result reply) give)}
-      (λ shape. agree_bind {part = import_call (seen p) (outer_name x.name) pieces shape} {next = λ reply. given p (reply_value x.result reply) give} {next' = λ reply. given q (reply_value x.result reply) give} agree_itself
-      (λ reply. given_agree (reply_value x.result reply) {next = give} {next' = give} (λ value. agree_itself)))
+  written_agree : (args : List CValue) (reply : CallResult × List ℤ) → Agree (reply_written p args reply) (reply_written q args reply)
+  written_agree args reply = agree_by_state (λ s. given_agree (write_replies target u.structs args reply.1 s.objects) (λ objects. agree_itself))
+
+  replied_agree : (x : CExtern) (args : List CValue) (pieces : List Piece) → Agree (outside_with p x args pieces) (outside_with q x args pieces)
+  replied_agree x args pieces =
+      given_agree (reply_shape x.result)
+      {next = λ shape. bind (import_call (seen p) (outer_name x.name) pieces (shape ++ written_shape u.structs args)) (λ reply. given p (reply_value x.result reply) (reply_written p args))}
+      {next' = λ shape. bind (import_call (seen q) (outer_name x.name) pieces (shape ++ written_shape u.structs args)) (λ reply. given q (reply_value x.result reply) (reply_written q args))}
+      (λ shape. agree_bind {part = import_call (seen p) (outer_name x.name) pieces (shape ++ written_shape u.structs args)} {next = λ reply. given p (reply_value x.result reply) (reply_written p args)}
+      {next' = λ reply. given q (reply_value x.result reply) (reply_written q args)} agree_itself
+      (λ reply. given_agree (reply_value x.result reply) {next = reply_written p args} {next' = reply_written q args} (written_agree args)))
 
   outside_agree : (x : CExtern) (args : List CValue) → Agree (outside p x args) (outside q x args)
-  outside_agree x args = given_agree (pieces_of args) {next = outside_with p x} {next' = outside_with q x} (replied_agree x)
+  outside_agree x args = agree_by_state (λ s. given_agree (pieces_of target u.structs s.objects args) {next = outside_with p x args} {next' = outside_with q x args} (replied_agree x args))
 
   abbrev CallsAgree : Calls → Calls → Type 0
   CallsAgree functions functions' = (name : Name) (values : List CValue) → Agree (functions name values) (functions' name values)
@@ -184,6 +218,12 @@ module _ (u : TranslationUnit) (target : Target) where
   declaration_agree : (x : Name) (ty : CType) (v : CValue) → Agree (declaration p x ty v) (declaration q x ty v)
   declaration_agree x ty v = given_agree (as_assigned target ty v) (λ a. agree_itself)
 
+  object_agree : (x : Name) (b : CBase) (values : values.Init CValue) → Agree (object_with p x b values) (object_with q x b values)
+  object_agree x b values = agree_by_state (λ s. given_agree (made_with target (tree u.structs b) false s.objects values) (λ made. agree_itself))
+
+  assign_agree : (l : Lvalue) (v : CValue) → Agree (assign p l v) (assign q l v)
+  assign_agree l v = agree_by_state (λ s. given_agree (stored target s l v) (λ objects. agree_itself))
+
   used_agree : (x : Name) (ty : CType) (result : CallResult) → Agree (used p result (declaration p x ty)) (used q result (declaration q x ty))
   used_agree x ty Nothing = troubled_agree Stuck
   used_agree x ty Missing = troubled_agree (Undefined NoValue)
@@ -197,8 +237,10 @@ module _ (u : TranslationUnit) (target : Target) where
       exec_agree : (st : Stmt) → Agree (exec p functions st) (exec q functions' st)
       exec_agree (Const x ty e) = value_agree e (declaration_agree x ty)
       exec_agree (ConstCall x ty c) = agree_bind (step_agree c) (λ result. agree_tick (used_agree x ty result))
-      exec_agree (Object x b i) = troubled_agree Stuck
-      exec_agree (Assign place e) = troubled_agree Stuck
+      exec_agree (Object x b None) = agree_itself
+      exec_agree (Object x b (Some i)) = agree_by_state (λ s. given_same (eval_init p i s) (eval_init q i s) (init_same i s) (λ values. agree_tick (object_agree x b values)))
+      exec_agree (Assign place e) =
+          agree_by_state (λ s. given_same (eval_place p place s) (eval_place q place s) (place_same place s) (λ l. given_same (eval p e s) (eval q e s) (eval_same e s) (λ v. agree_tick (assign_agree l v))))
       exec_agree (If e a) = truth_agree e (λ holds. agree_choice holds (agree_block (exec_all_agree a)) agree_itself)
       exec_agree (IfElse e a b) = truth_agree e (λ holds. agree_choice holds (agree_block (exec_all_agree a)) (agree_block (exec_all_agree b)))
       exec_agree (Forever body) = agree_forever (agree_block (exec_all_agree body))
@@ -214,6 +256,9 @@ module _ (u : TranslationUnit) (target : Target) where
 
     -- ---- functions
 
+    gave_agree : (v : CValue) → Agree (gave p v) (gave q v)
+    gave_agree v = agree_by_state (λ s. given_agree (alive s v) (λ a. agree_itself))
+
     left_agree : (result : CType) (control : Control (Option CValue)) → Agree (function_value p result control) (function_value q result control)
     left_agree Void Falls = agree_itself
     left_agree (Value s) Falls = agree_itself
@@ -221,7 +266,7 @@ module _ (u : TranslationUnit) (target : Target) where
     left_agree Void (Returned None) = agree_itself
     left_agree (Value s) (Returned None) = troubled_agree Stuck
     left_agree (Pointer constant base) (Returned None) = troubled_agree Stuck
-    left_agree result (Returned (Some v)) = given_agree (as_assigned target result v) (λ a. agree_itself)
+    left_agree result (Returned (Some v)) = given_agree (as_assigned target result v) gave_agree
     left_agree result Broke = troubled_agree Stuck
 
     function_agree : (f : Function) (values : List CValue) → Agree (function_call p functions f values) (function_call q functions' f values)
@@ -264,9 +309,20 @@ module _ (u : TranslationUnit) (target : Target) where
   moves_unless (Halted how w seen) other = λ e. other (ap end_of e)
   moves_unless (Exhausted w) other = tt
 
-  run_same : (os : List FileObject) (script : Script) (n : ℕ) → (run_from p (first_state_of os) script n).end ≢ Stopped no_site → run_from q (first_state_of os) script n ≡ run_from p (first_state_of os) script n
-  run_same [] script n other = ap (outcome (seen q)) ((calls_agree script.calls).same n (start script) _ (moves_unless _ other))
-  run_same (o ∷ os) script n other = absurd (other refl)
+  objects_same : (os : List FileObject) (made : CObjects) → file_objects q os made ≡ file_objects p os made
+  objects_same [] made = refl
+  objects_same (o ∷ os) made =
+      ap (λ r. let x : Result CObjects Trouble = on_ok r (λ values. on_ok (made_with target (tree u.structs o.base) o.constant made values) (file_objects q os)) in x) (init_same o.init at_rest)
+      ∙ on_ok_same (eval_init p o.init at_rest) (λ values. on_ok_same (made_with target (tree u.structs o.base) o.constant made values) (objects_same os))
+
+  first_same : first_state q ≡ first_state p
+  first_same = ap (λ r. let x : Result CState Trouble = on_ok r (λ made. Ok (record at_rest { objects = made })) in x) (objects_same u.objects [])
+
+  run_same : (first : Result CState Trouble) (script : Script) (n : ℕ) → (run_from p first script n).end ≢ Stopped no_site → run_from q first script n ≡ run_from p first script n
+  run_same (Ok s) script n other = ap (outcome (seen q)) ((calls_agree script.calls).same n (start script) s (moves_unless _ other))
+  run_same (Err (Undefined reason)) script n other = refl
+  run_same (Err Stuck) script n other = absurd (other refl)
 
 pub watched_runs_are_runs : WatchedRunsAreRuns
-watched_runs_are_runs u target script n other = run_same u target u.objects script n other
+watched_runs_are_runs u target script n other =
+    ap (λ first. run_from (program_of u target) first script n) (first_same u target) ∙ run_same u target (first_state (watched u target)) script n other

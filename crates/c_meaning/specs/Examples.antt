@@ -15,9 +15,8 @@ use Rattle.c_ast.specs.declared.CType.{CType}
 use Rattle.c_ast.specs.declared.CType.TheVariants.{Void, Value}
 use Rattle.c_ast.specs.declared.Suffix.TheVariants.{Plain, U}
 use Rattle.c_ast.specs.declared.CExtern.{CExtern}
-use Rattle.c_ast.specs.declared.CBase.TheVariants as base
 use Rattle.c_ast.specs.declared.CBinary.TheVariants.{Div, Lt}
-use Rattle.c_ast.specs.Syntax.{Name, Expr, Number, Read, Binary, Var, Stmt, Const, ConstCall, Object, If, IfElse, Forever, Break, Return, Block, Call, Nil, Function, TranslationUnit}
+use Rattle.c_ast.specs.Syntax.{Name, Expr, Number, Read, Binary, Var, Stmt, Const, ConstCall, If, IfElse, Forever, Break, Return, Block, Call, Nil, Function, TranslationUnit}
 use Rattle.c_ast.specs.Examples.{rows, procedure, unit_with}
 use Rattle.c_meaning.specs.Meant.{UnitIsMeant}
 use Rattle.c_meaning.specs.Laws.{no_site, watched}
@@ -257,8 +256,7 @@ pub record NameAndConditionExamples : Type 0 where
 -- ---- being stuck
 
 pub record StuckExamples : Type 0 where
-  pub object : watched_once (blinking (Object (codes "iv_y") (base.Scalar Truth) None ∷ [])) 9 ≡ lost
-  pub shown : once (blinking (Object (codes "iv_y") (base.Scalar Truth) None ∷ [])) 9 ≡ outcome_of [] (Undefined NoValue)
+  pub shown : once (blinking (Const (codes "iv_y") byte (name (codes "iv_x")) ∷ [])) 9 ≡ outcome_of [] (Undefined NoValue)
   pub unknown : watched_once (blinking (Const (codes "iv_y") byte (name (codes "iv_x")) ∷ [])) 9 ≡ lost
   pub no_value : watched_once (calling Void [] (shows_result byte 9)) 9 ≡ lost
   pub returned_without : watched_once (calling Void (Return None ∷ []) (shows_result byte 9)) 9 ≡ lost

@@ -2,13 +2,14 @@
 -- expression of numbers that has a type is never stuck.
 use Rattle.std.specs.Prelude.{◌≡◌, ◌≢◌, ⊤, [], All, Option, Some, IfOk, IsTrue, Err}
 use Rattle.c_ast.specs.declared.CType.TheVariants.{Void, Value, Pointer}
-use Rattle.c_ast.specs.Syntax.{Expr, Number, Read, Address, Unary, Binary, Cast, Cond, Var, At, Member, Element}
-use Rattle.c_ast.specs.StaticTypes.{ValueType}
+use Rattle.c_ast.specs.Syntax.{Expr, Number, Read, Address, Unary, Binary, Cast, Cond, Place, Var, At, Member, Element}
+use Rattle.c_ast.specs.StaticTypes.{ValueType, PlaceType, Held, Stored}
 use Rattle.c_ast.specs.Targets.{TargetTable, table_of}
 use Rattle.c_ast.specs.Conversions.{can_hold}
 use Rattle.c_meaning.specs.Values.{Stuck, CValue, Num, Ptr, held_type}
 use Rattle.c_meaning.specs.State.{Program, Slot, Holding, Naming, CState}
-use Rattle.c_meaning.specs.Expressions.{static_type, eval}
+use Rattle.c_meaning.specs.Places.{Lvalue, Known, Part}
+use Rattle.c_meaning.specs.Expressions.{static_type, static_place_type, eval, eval_place}
 
 -- a value whose number is one of its type
 abbrev pub IsTyped : TargetTable → CValue → Type 0
@@ -26,6 +27,24 @@ NamesAreTyped t s = All (λ n. SlotIsTyped t n.1) s.own
 pub record HasItsType (t : TargetTable) (of_expression : Option ValueType) (v : CValue) : Type 0 where
   pub typed : IsTyped t v
   pub agrees : (type : ValueType) → of_expression ≡ Some type → held_type v ≡ type
+
+-- a place has the type of its expression; a value that a name holds is one of its type
+abbrev pub place_type_of : Lvalue → PlaceType
+place_type_of (Known v) = Held (held_type v)
+place_type_of (Part constant to a) = Stored constant a
+
+abbrev pub IsTypedPlace : TargetTable → Lvalue → Type 0
+IsTypedPlace t (Known v) = IsTyped t v
+IsTypedPlace t (Part constant to a) = ⊤
+
+pub record HasItsPlaceType (t : TargetTable) (of_place : Option PlaceType) (l : Lvalue) : Type 0 where
+  pub typed : IsTypedPlace t l
+  pub agrees : (type : PlaceType) → of_place ≡ Some type → place_type_of l ≡ type
+
+abbrev pub PlacesHaveTheirTypes : Type 0
+PlacesHaveTheirTypes =
+    (p : Program) (place : Place) (s : CState) → NamesAreTyped (table_of p.target) s
+    → IfOk (eval_place p place s) (HasItsPlaceType (table_of p.target) (static_place_type p s place))
 
 abbrev pub ValuesHaveTheirTypes : Type 0
 ValuesHaveTheirTypes =

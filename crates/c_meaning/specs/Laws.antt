@@ -1,16 +1,24 @@
 -- What holds of every run of C, and when a run is never stuck.
-use Rattle.std.specs.Prelude.{◌≡◌, ◌≢◌, ℕ, ◌^◌, List, map, Ok}
+use Rattle.std.specs.Prelude.{◌≡◌, ◌≢◌, ℕ, ℤ, ◌^◌, List, map, Ok, IsTrue}
 use Rattle.iv_script.specs.declared.End.TheVariants.{Stopped}
 use Rattle.iv_script.specs.declared.Script.{Script}
 use Rattle.iv_script.specs.Scripts.{Fits}
 use Rattle.step_semantics.specs.Steps.{Halt, FailedCheck}
 use Rattle.step_semantics.specs.Outcomes.{OutcomeLaws}
+use Rattle.c_memory.specs.Abstract.{Lawful}
+use Rattle.c_memory.specs.ValueLaws.{LawfulValues}
+use Rattle.c_ast.specs.declared.CKind.TheVariants.{Scalar}
+use Rattle.c_ast.specs.declared.CScalar.{CScalar}
 use Rattle.c_ast.specs.declared.CParam.{CParam}
 use Rattle.c_ast.specs.declared.CType.{CType}
 use Rattle.c_ast.specs.declared.Target.{Target}
+use Rattle.c_ast.specs.Conversions.{can_hold}
 use Rattle.c_ast.specs.Exports.{c_exports}
+use Rattle.c_ast.specs.Scalars.{metric_of}
+use Rattle.c_ast.specs.Targets.{table_of}
 use Rattle.c_ast.specs.Syntax.{Name, TranslationUnit}
 use Rattle.c_meaning.specs.Values.{CValue, as_assigned, as_arguments}
+use Rattle.c_meaning.specs.Memory.{memory_of}
 use Rattle.c_meaning.specs.State.{Program, CState, declare}
 use Rattle.c_meaning.specs.Scopes.{local_entity, declarations}
 use Rattle.c_meaning.specs.Meant.{and_name, of_params, UnitIsMeant}
@@ -25,6 +33,20 @@ RunLaws = (u : TranslationUnit) (t : Target) (script : Script) → OutcomeLaws (
 pub record NamesAreAsDeclared : Type 0 where
   pub constants : (p : Program) (x : Name) (type : CType) (v a : CValue) (s : CState) → as_assigned p.target type v ≡ Ok a → declarations p (declare x a s) ≡ and_name x type (declarations p s)
   pub parameters : (t : Target) (params : List CParam) (values args : List CValue) → as_arguments t (param_types params) values ≡ Ok args → map local_entity (bound params args) ≡ of_params params
+
+-- ---- memory
+
+-- the numbers that a scalar can hold
+abbrev pub CanHold : Target → CScalar → ℤ → Type 0
+CanHold t k v = IsTrue (can_hold (table_of t) (Scalar k) v)
+
+-- the memory of each target keeps the laws by which the layers above know it, behind which no byte is opened
+abbrev pub MemoryIsLawful : Type 0
+MemoryIsLawful = (t : Target) → Lawful (metric_of t) (CanHold t) (memory_of t)
+
+-- and what reads, stores, replies, declarations and the ends of blocks do to objects that hold values
+abbrev pub ObjectsHoldValues : Type 0 → Type 0
+ObjectsHoldValues W = (t : Target) (f : W → ℤ) → LawfulValues (metric_of t) (CanHold t) f (memory_of t)
 
 -- ---- being stuck
 

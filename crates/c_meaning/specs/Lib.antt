@@ -1,8 +1,11 @@
 pub mod Values
 pub mod Operators
+pub mod Memory
 pub mod State
 pub mod Scopes
+pub mod Places
 pub mod Expressions
+pub mod Initializers
 pub mod Calls
 pub mod Statements
 pub mod Runs
@@ -12,3 +15,5 @@ pub mod Laws
 pub mod NumberExamples
 pub mod ValueExamples
 pub mod Examples
+pub mod PlaceExamples
+pub mod MemoryExamples

@@ -1,6 +1,6 @@
--- Units of the forms that have a meaning so far, whose expressions and calls are typed: numbers, const names, calls, conditions,
--- loops, blocks, `break` and `return`. Objects and pointers are none of them. Of how names are chosen nothing is asked.
-use Rattle.std.specs.Prelude.{◌≡◌, ⊤, List, [], ◌∷◌, map, Bool, true, false, IsTrue, Option, Some, None, if◌then◌else◌, All}
+-- Units without objects and pointers, whose expressions and calls are typed: numbers, const names, calls, conditions, loops, blocks,
+-- `break` and `return`. Of how names are chosen nothing is asked.
+use Rattle.std.specs.Prelude.{◌≡◌, ⊤, List, [], ◌∷◌, Bool, true, false, IsTrue, Option, Some, None, if◌then◌else◌, All}
 use Rattle.std.specs.List.{find}
 use Rattle.iv_words.specs.Words.{same_word}
 use Rattle.c_ast.specs.declared.CKind.{CKind}
@@ -12,7 +12,7 @@ use Rattle.c_ast.specs.declared.CExtern.{CExtern}
 use Rattle.c_ast.specs.declared.Target.{Target}
 use Rattle.c_ast.specs.Names.{stop_name}
 use Rattle.c_ast.specs.Signatures.{IsScalar, IsResult, Signature, stop_signature, extern_signature, function_signature}
-use Rattle.c_ast.specs.StaticTypes.{Arithmetic, Entity, ConstName, declared, expr_type}
+use Rattle.c_ast.specs.StaticTypes.{Arithmetic, PointerTo, Entity, ConstName, declared, expr_type}
 use Rattle.c_ast.specs.Syntax.{Name, Expr, FunctionCall, Stmt, Const, ConstCall, Object, Assign, If, IfElse, Forever, Break, Return, Block, Call, Stmts, Nil, Cons, Function, TranslationUnit}
 use Rattle.c_ast.specs.Targets.{table_of}
 use Rattle.c_meaning.specs.ExpressionLaws.{IsOfNumbers}
@@ -26,7 +26,7 @@ Declarations = List (Name × Entity)
 abbrev pub and_name : Name → CType → Declarations → Declarations
 and_name x (Value s) scope = (x, ConstName (Arithmetic (Scalar s))) ∷ scope
 and_name x Void scope = scope
-and_name x (Pointer constant base) scope = scope
+and_name x (Pointer constant base) scope = (x, ConstName (PointerTo constant base)) ∷ scope
 
 -- the declarations in scope behind a statement
 abbrev pub behind : Stmt → Declarations → Declarations

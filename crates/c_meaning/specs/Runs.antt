@@ -4,7 +4,7 @@ use Rattle.iv_words.specs.Words.{same_word}
 use Rattle.iv_script.specs.declared.Outcome.{Outcome}
 use Rattle.iv_script.specs.declared.Reason.TheVariants.{NoValue}
 use Rattle.iv_script.specs.declared.Script.{Script}
-use Rattle.step_semantics.specs.Steps.{Part, give, bind, block}
+use Rattle.step_semantics.specs.Steps.{Part, give, bind, by_state, block}
 use Rattle.step_semantics.specs.Control.{Control, Falls, Broke, Returned}
 use Rattle.step_semantics.specs.Runs.{Body, end_of, run}
 use Rattle.c_ast.specs.declared.Target.{Target}
@@ -14,12 +14,20 @@ use Rattle.c_ast.specs.declared.CType.TheVariants.{Void, Value, Pointer}
 use Rattle.c_ast.specs.declared.CParam.{CParam}
 use Rattle.c_ast.specs.Syntax.{Name, FileObject, Function, TranslationUnit}
 use Rattle.c_ast.specs.Names.{outer_name}
+use Rattle.c_ast.specs.Structs.{tree}
 use Rattle.c_meaning.specs.Values.{Trouble, Undefined, Stuck, CValue, Num, Ptr, on_ok, as_assigned, as_arguments}
 use Rattle.c_meaning.specs.State.{Program, program_of, end_in, Frame, Holding, CState, at_rest, seen, leave, in_own_frame}
+use Rattle.c_meaning.specs.Memory.{CObjects}
+use Rattle.c_meaning.specs.Places.{alive}
+use Rattle.c_meaning.specs.Initializers.{eval_init, made_with}
 use Rattle.c_meaning.specs.Calls.{troubled, given, CallResult, Nothing, Missing, Gave, Calls, no_functions}
 use Rattle.c_meaning.specs.Statements.{exec_all}
 
 -- ---- functions
+
+-- a pointer to an object that ended with the function's blocks has no value (6.2.4), used or not
+abbrev pub gave : Program → CValue → Part CState CallResult
+gave p v = by_state (λ s. given p (alive s v) (λ a. give (Gave a)))
 
 -- What a function gives back where control leaves its body: at the `}` no value, at a `return` its value, converted to the type
 -- of the result as by assignment (6.8.6.4, 6.9.1); and one that is `void` gives nothing.
@@ -30,7 +38,7 @@ function_value p (Pointer constant base) Falls = give Missing
 function_value p Void (Returned None) = give Nothing
 function_value p (Value s) (Returned None) = troubled p Stuck
 function_value p (Pointer constant base) (Returned None) = troubled p Stuck
-function_value p result (Returned (Some v)) = given p (as_assigned p.target result v) (λ a. give (Gave a))
+function_value p result (Returned (Some v)) = given p (as_assigned p.target result v) (gave p)
 function_value p result Broke = troubled p Stuck
 
 abbrev pub param_types : List CParam → List CType
@@ -87,13 +95,17 @@ entry p entry_call = entry_among p (no_functions p) p.unit.functions entry_call.
 
 -- ---- runs
 
--- the state before the first entry call, once the initializers of file scope are done; a unit with objects has none yet
-abbrev pub first_state_of : List FileObject → Result CState Trouble
-first_state_of [] = Ok at_rest
-first_state_of (o ∷ os) = Err Stuck
+-- The objects of file scope, made in order with their first values (6.7.8, 6.9.2); in their initializers is no name.
+abbrev pub file_objects : Program → List FileObject → CObjects → Result CObjects Trouble
+file_objects p [] made = Ok made
+file_objects p (o ∷ os) made = on_ok (eval_init p o.init at_rest) (λ values. on_ok (made_with p.target (tree p.unit.structs o.base) o.constant made values) (file_objects p os))
+
+-- the state before the first entry call, once the initializers of file scope are done, for no step
+abbrev pub first_state_of : Program → List FileObject → Result CState Trouble
+first_state_of p os = on_ok (file_objects p os []) (λ made. Ok (record at_rest { objects = made }))
 
 abbrev pub first_state : Program → Result CState Trouble
-first_state p = first_state_of p.unit.objects
+first_state p = first_state_of p p.unit.objects
 
 -- where an initializer of file scope has no meaning, no run has one
 abbrev pub run_from : Program → Result CState Trouble → Script → ℕ → Outcome

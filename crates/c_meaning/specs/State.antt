@@ -1,13 +1,23 @@
 -- What a run of C works on: the program, its state, and what the outside sees of it.
-use Rattle.std.specs.Prelude.{ℕ, List, [], ◌∷◌}
+use Rattle.std.specs.Prelude.{ℕ, suc, ℤ, List, [], ◌∷◌, length, Bool, Result, Ok, Err}
 use Rattle.iv_script.specs.declared.AreaCells.{AreaCells}
 use Rattle.iv_script.specs.declared.Reason.TheVariants.{NoValue}
 use Rattle.step_semantics.specs.Steps.{Halt, NoMeaning, Part}
-use Rattle.step_semantics.specs.Frames.{Frames, push_frame, pop_frame, in_frame}
+use Rattle.step_semantics.specs.Frames.{in_frame}
+use Rattle.type_trees.specs.Layouts.{lay}
+use Rattle.c_memory.specs.Access.{Fault}
+use Rattle.c_memory.specs.Blocks as blocks
+use Rattle.c_memory.specs.Copies.{read_each}
+use Rattle.c_memory.specs.Objects.{is_live}
 use Rattle.c_ast.specs.declared.CBase.{CBase}
+use Rattle.c_ast.specs.declared.CStruct.{CStruct}
 use Rattle.c_ast.specs.declared.Target.{Target}
-use Rattle.c_ast.specs.Syntax.{Name, TranslationUnit}
+use Rattle.c_ast.specs.Names.{outer_name}
+use Rattle.c_ast.specs.Scalars.{metric_of}
+use Rattle.c_ast.specs.Structs.{tree}
+use Rattle.c_ast.specs.Syntax.{Name, FileObject, TranslationUnit}
 use Rattle.c_meaning.specs.Values.{Trouble, Undefined, Stuck, CValue}
+use Rattle.c_meaning.specs.Memory.{CObjects, memory_of}
 
 -- ---- programs
 
@@ -42,32 +52,67 @@ pub data Slot : Type 0 where
 abbrev pub Frame : Type 0
 Frame = List (Name × Slot)
 
--- the frame of the function that runs, and those of the functions that wait for it
-abbrev pub CState : Type 0
-CState = Frames Frame
+-- The frame of the function that runs, and those of the functions that wait for it, the nearest first; and the objects, of which those
+-- of file scope come first, in the order of the unit.
+pub record CState : Type 0 where
+  pub own : Frame
+  pub callers : List Frame
+  pub objects : CObjects
 
--- between entry calls
+-- between entry calls, where there are no objects
 abbrev pub at_rest : CState
-at_rest = record { own = []; callers = [] }
+at_rest = record { own = []; callers = []; objects = [] }
 
--- The objects of file scope, in order, as the outside sees them. No unit with such objects has a first state yet.
+-- whether an object is still there (6.2.4)
+abbrev pub lives : CState → ℕ → Bool
+lives s o = is_live s.objects o
+
+-- ---- what the outside sees
+
+-- the scalars of an object, in order; each of an object of file scope has a value, so that what stands for a fault is never seen
+abbrev pub shown : Result (List ℤ) Fault → List ℤ
+shown (Ok values) = values
+shown (Err fault) = []
+
+module _ (t : Target) (structs : List CStruct) where
+  abbrev pub cells_of : CState → ℕ → CBase → List ℤ
+  cells_of s o b = shown (read_each (memory_of t).read s.objects o (lay (metric_of t) (tree structs b) 0))
+
+  -- from number o on
+  abbrev pub seen_from : CState → ℕ → List FileObject → List AreaCells
+  seen_from s o [] = []
+  seen_from s o (x ∷ xs) = record { name = outer_name x.name; cells = cells_of s o x.base } ∷ seen_from s (suc o) xs
+
+-- the objects of file scope, in order, as the outside sees them
 abbrev pub seen : Program → CState → List AreaCells
-seen p s = []
+seen p s = seen_from p.target p.unit.structs s 0 p.unit.objects
 
--- ---- names come and go
+-- ---- names and objects come and go
 
 -- every name that comes to hold a value by a declaration (6.7)
 abbrev pub declare : Name → CValue → CState → CState
 declare x v s = record s { own = (x, Holding v) ∷ s.own }
 
--- a name ends with the block in which it was declared (6.2.1)
+-- the name of the next object, whose type is of this base, once it is made
+abbrev pub declare_object : Name → CBase → CObjects → CState → CState
+declare_object x b made s = record s { own = (x, Naming (length s.objects) b) ∷ s.own; objects = made }
+
+-- a name and an object end with the block in which they were declared (6.2.1, 6.2.4)
 abbrev pub leave : CState → CState → CState
-leave before after = record after { own = before.own }
+leave before after = record after { own = before.own; objects = blocks.leave (length before.objects) after.objects }
 
 -- a function is entered with its parameters, and no name of its caller is in scope there
 abbrev pub enter : Frame → CState → CState
-enter params s = push_frame params s
+enter params s = record s { own = params; callers = s.own ∷ s.callers }
+
+-- and left for the nearest of those that wait
+abbrev pub returned_to : List Frame → CState → CState
+returned_to [] s = s
+returned_to (caller ∷ callers) s = record s { own = caller; callers = callers }
+
+abbrev pub pop : CState → CState
+pop s = returned_to s.callers s
 
 -- a part in a frame of its own, with its parameters
 abbrev pub in_own_frame : {A : Type 0} → Frame → Part CState A → Part CState A
-in_own_frame params part = in_frame (enter params) pop_frame part
+in_own_frame params part = in_frame (enter params) pop part

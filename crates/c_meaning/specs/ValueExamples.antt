@@ -27,6 +27,7 @@ abbrev pub inside : CState
 inside = record {
   own = (codes "iv_x", Holding (exact U8 (pos 200))) ∷ (codes "iv_y", Holding (exact U8 (pos 200))) ∷ (codes "iv_x", Holding (exact U8 (pos 7))) ∷ [];
   callers = [];
+  objects = [];
 }
 
 abbrev pub value : Expr → Result CValue Trouble

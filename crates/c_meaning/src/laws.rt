@@ -1,12 +1,20 @@
-ghost use Rattle.c_meaning.specs.Laws.{RunLaws, NamesAreAsDeclared, WatchedRunsAreRuns, MeantUnitsAreNeverStuck};
-ghost use Rattle.c_meaning.specs.ExpressionLaws.{ValuesHaveTheirTypes, TypedNumbersAreNotStuck};
+ghost use Rattle.c_meaning.specs.Laws.{RunLaws, MemoryIsLawful, ObjectsHoldValues, NamesAreAsDeclared, WatchedRunsAreRuns, MeantUnitsAreNeverStuck};
+ghost use Rattle.c_meaning.specs.ExpressionLaws.{ValuesHaveTheirTypes, PlacesHaveTheirTypes, TypedNumbersAreNotStuck};
 ghost use Rattle.c_meaning.specs.NumberExamples.{SumExamples, ProductExamples, QuotientExamples, BitExamples, LeftShiftExamples, RightShiftExamples, ComparisonExamples, UnaryExamples, PointerExamples};
 ghost use Rattle.c_meaning.specs.ValueExamples.{NameExamples, OrderExamples, CastExamples, ConditionExamples};
+ghost use Rattle.c_meaning.specs.PlaceExamples.{ReadExamples, ElementExamples, PointerCastExamples};
+ghost use Rattle.c_meaning.specs.MemoryExamples.{ObjectExamples, MissingExamples, AssignmentExamples, ReturnedPointerExamples, PassedPointer, OutsideExamples, FileScopeExamples};
 ghost use Rattle.c_meaning.specs.Examples.{EmptyMain, EmptyMainNeedsAStep, NoCalls, HiddenMain, LedOnce, LedNeedsAStep, LedTwice, LedWraps, LedTruth, LedSigned, LedTooGreat, LedTooGreatLater, Replied, NotReplied, BadlyReplied, Stops, CallsEarlier, CallsEarlierInSteps, CallsItself, EndlessLoop, EndlessLed, LoopLeft, LoopLeftInSteps, Returns, Blocks, EntryValueExamples, CallValueExamples, NameAndConditionExamples, StuckExamples, MeantExample};
 
 /// The outcomes of a run of C: one for each number of steps, whose events only grow, and whose end stays.
 pub fn run_laws()
     ensures { RunLaws }
+{}
+
+/// The memory that C runs on: what its operations do, and what they do to objects that hold values.
+pub fn memory_laws<W>()
+    ensures lawful { MemoryIsLawful }
+    ensures values { ObjectsHoldValues W }
 {}
 
 /// A unit of the forms that have a meaning is never stuck, where its expressions and calls are typed.
@@ -22,9 +30,11 @@ pub fn stuck_examples()
     ensures meant { MeantExample }
 {}
 
-/// The value of an expression is one of the type of the expression, and a typed expression of numbers is not stuck; names are as declared.
+/// The value of an expression is one of the type of the expression, and so is a place; a typed expression of numbers is not stuck;
+/// names are as declared.
 pub fn type_laws()
     ensures types { ValuesHaveTheirTypes }
+    ensures places { PlacesHaveTheirTypes }
     ensures not_stuck { TypedNumbersAreNotStuck }
     ensures declared { NamesAreAsDeclared }
 {}
@@ -112,4 +122,29 @@ pub fn order_examples()
 pub fn type_examples()
     ensures casts { CastExamples }
     ensures conditions { ConditionExamples }
+{}
+
+/// What places, addresses and casts of pointers come to, and which have no meaning.
+#[tactic(auto, unfolding(c_memory::specs::Codecs::stored, c_memory::specs::Codecs::signed_value, type_trees::specs::Multiples::up))]
+pub fn place_examples()
+    ensures reads { ReadExamples }
+    ensures elements { ElementExamples }
+    ensures pointers { PointerCastExamples }
+{}
+
+/// What declarations of objects and assignments do, and in which order.
+#[tactic(auto, unfolding(c_memory::specs::Codecs::stored, c_memory::specs::Codecs::signed_value, type_trees::specs::Multiples::up))]
+pub fn object_examples()
+    ensures objects { ObjectExamples }
+    ensures missing { MissingExamples }
+    ensures assignments { AssignmentExamples }
+    ensures returned { ReturnedPointerExamples }
+    ensures passed { PassedPointer }
+{}
+
+/// What the outside sees and writes behind pointers, and objects of file scope.
+#[tactic(auto, unfolding(c_memory::specs::Codecs::stored, c_memory::specs::Codecs::signed_value, type_trees::specs::Multiples::up))]
+pub fn outside_examples()
+    ensures outside { OutsideExamples }
+    ensures file_scope { FileScopeExamples }
 {}

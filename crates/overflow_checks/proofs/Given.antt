@@ -77,4 +77,4 @@ module _ (p : Program) (s : CState) where
   operand_is_given kind (Cond c a b) v o h = h
 
 pub names_stand_for : NamesStandFor
-names_stand_for p s kind x v e h = record { gives = name_gives p s x (Num (of_kind kind) v) e; type = name_type_is p s x (Num (of_kind kind) v) e; is_in = h }
+names_stand_for p s kind x v e h = record { gives = name_gives p s x (of_kind kind) v e; type = name_type_is p s x (Num (of_kind kind) v) e; is_in = h }

@@ -10,3 +10,6 @@ returns-clause-not_stuck c = expressions.typed_numbers_are_not_stuck
 
 pub returns-clause-declared : goal.returns-clause-declared
 returns-clause-declared c = names.names_are_as_declared
+
+pub returns-clause-places : goal.returns-clause-places
+returns-clause-places c = expressions.places_have_their_types

@@ -65,6 +65,6 @@ digit_alone n small = record { all = rw (plain_digit n small) refl }
 pub plain_decimal : (n : ℕ) → n < 2 ^ 64 → IsPlain (decimal n)
 plain_decimal = decimal_by_steps (λ n ds. IsPlain ds) digit_alone (λ n ds large front. plain_joined ds ((48 + n % 10) ∷ []) front (digit_alone (n % 10) (omega arith)))
 
-pub plain_blanks : (n : ℕ) → IsPlain (replicate n 32)
-plain_blanks zero = record { all = refl }
-plain_blanks (suc n) = record { all = (plain_blanks n).all }
+pub plain_spaces : (n : ℕ) → IsPlain (replicate n 32)
+plain_spaces zero = record { all = refl }
+plain_spaces (suc n) = record { all = (plain_spaces n).all }

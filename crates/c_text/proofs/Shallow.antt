@@ -1,5 +1,5 @@
 -- The brackets of a unit's text nest as deep as the unit does.
-use Rattle.std.proofs.Common.{◌≡◌, refl, subst, ℕ, ◌+◌, ◌*◌, ◌<◌, ◌≤◌, max, Bool, true, false, Option, Some, None, List, [], ◌∷◌, ◌++◌, append_assoc, arith}
+use Rattle.std.proofs.Common.{◌≡◌, refl, subst, ℕ, ◌+◌, ◌*◌, ◌≤◌, max, Bool, true, false, Option, Some, None, List, [], ◌∷◌, ◌++◌, append_assoc, arith}
 use Rattle.std.specs.Prelude.{codes, map, take, decimal}
 use Rattle.std.specs.List.{All, list_all}
 use Rattle.std.proofs.Math.Nat.{le-max_left, le-max_right, max-le}
@@ -33,7 +33,7 @@ use Rattle.c_text.specs.Nested.{deepest, expr_nested, place_nested, init_nested,
 use Rattle.c_text.specs.Right.{Right}
 use Rattle.c_text.specs.ReadsBack.{open_brackets, IsShallow, ReadsBack}
 use Rattle.c_text.proofs.Nesting.{Nests, shallow, deeper, empty, joined, in_parentheses, in_square, in_braces}
-use Rattle.c_text.proofs.Plain.{is_plain, IsPlain, plain_nests, plain_joined, plain_word, plain_decimal, plain_blanks}
+use Rattle.c_text.proofs.Plain.{is_plain, IsPlain, plain_nests, plain_joined, plain_word, plain_decimal, plain_spaces}
 
 -- ---- joining texts
 
@@ -233,8 +233,8 @@ call_nests c inside =
 
 -- ---- statements
 
-blanks : {depth : ℕ} (braces : ℕ) → Nests depth (indent braces)
-blanks {depth} braces = plain_nests depth (indent braces) (plain_blanks (2 * braces))
+spaces : {depth : ℕ} (braces : ℕ) → Nests depth (indent braces)
+spaces {depth} braces = plain_nests depth (indent braces) (plain_spaces (2 * braces))
 
 first_value_nests : (i : Option Init) → FirstValueInSubset i → Nests (first_value_nested i) (first_value_text i)
 first_value_nests None inside = empty 0
@@ -245,37 +245,37 @@ return_nests None inside = mark 0 (codes "return") refl
 return_nests (Some e) inside = then (mark (expr_nested e) (codes "return ") refl) (expr_nests e inside)
 
 -- `{`, the lines of a block, and `}`
-block_parts : (lines blank : List ℕ) → codes "{" ++ ((10 ∷ []) ++ lines ++ blank) ++ codes "}" ≡ line (codes "{") ++ lines ++ blank ++ codes "}"
-block_parts lines blank = simp append_assoc
+block_parts : (lines front : List ℕ) → codes "{" ++ ((10 ∷ []) ++ lines ++ front) ++ codes "}" ≡ line (codes "{") ++ lines ++ front ++ codes "}"
+block_parts lines front = simp append_assoc
 
 block_nests : (depth braces : ℕ) (lines : List ℕ) → Nests depth lines → Nests (depth + 1) (block_text braces lines)
 block_nests depth braces lines nests =
     subst (Nests (depth + 1)) (block_parts lines (indent braces))
-    (in_braces depth ((10 ∷ []) ++ lines ++ indent braces) (then (then (mark depth (10 ∷ []) refl) nests) (blanks braces)))
+    (in_braces depth ((10 ∷ []) ++ lines ++ indent braces) (then (then (mark depth (10 ∷ []) refl) nests) (spaces braces)))
 
 -- a line with spaces in front, a middle and a semicolon
 statement : {depth : ℕ} {text : List ℕ} → Nests depth text → Nests depth (line (text ++ codes ";"))
 statement {depth} {text} nests = lined (then nests (mark depth (codes ";") refl))
 
 -- `if`, its test and its first block
-test_parts : (blank test block : List ℕ) → blank ++ codes "if " ++ (codes "(" ++ test ++ codes ")") ++ codes " " ++ block ≡ blank ++ codes "if (" ++ test ++ codes ") " ++ block
-test_parts blank test block = simp append_assoc
+test_parts : (front test block : List ℕ) → front ++ codes "if " ++ (codes "(" ++ test ++ codes ")") ++ codes " " ++ block ≡ front ++ codes "if (" ++ test ++ codes ") " ++ block
+test_parts front test block = simp append_assoc
 
 test_nests : (n m braces : ℕ) (test block : List ℕ) → Nests n test → Nests (m + 1) block → Nests (max n m + 1) (indent braces ++ codes "if (" ++ test ++ codes ") " ++ block)
 test_nests n m braces test block condition body =
     let depth : ℕ = max n m + 1 in
     subst (Nests depth) (test_parts (indent braces) test block)
-    (then (then (then (then (blanks braces) (mark depth (codes "if ") refl)) (in_parentheses (max n m) test (left m condition))) (mark depth (codes " ") refl))
+    (then (then (then (then (spaces braces) (mark depth (codes "if ") refl)) (in_parentheses (max n m) test (left m condition))) (mark depth (codes " ") refl))
     (deeper (m + 1) depth block (omega (arith, le-max_right n m)) body))
 
 -- `for (;;)` and its block
-loop_parts : (blank block : List ℕ) → blank ++ codes "for " ++ (codes "(" ++ codes ";;" ++ codes ")") ++ codes " " ++ block ≡ blank ++ codes "for (;;) " ++ block
-loop_parts blank block = simp append_assoc
+loop_parts : (front block : List ℕ) → front ++ codes "for " ++ (codes "(" ++ codes ";;" ++ codes ")") ++ codes " " ++ block ≡ front ++ codes "for (;;) " ++ block
+loop_parts front block = simp append_assoc
 
 loop_nests : (m braces : ℕ) (block : List ℕ) → Nests (m + 1) block → Nests (m + 1) (indent braces ++ codes "for (;;) " ++ block)
 loop_nests m braces block body =
     subst (Nests (m + 1)) (loop_parts (indent braces) block)
-    (then (then (then (then (blanks braces) (mark (m + 1) (codes "for ") refl)) (in_parentheses m (codes ";;") (mark m (codes ";;") refl))) (mark (m + 1) (codes " ") refl)) body)
+    (then (then (then (then (spaces braces) (mark (m + 1) (codes "for ") refl)) (in_parentheses m (codes ";;") (mark m (codes ";;") refl))) (mark (m + 1) (codes " ") refl)) body)
 
 -- two blocks with `else` between them
 else_nests : (n m : ℕ) (first second : List ℕ) → Nests (n + 1) first → Nests (m + 1) second → Nests (max n m + 1) (first ++ codes " else " ++ line second)
@@ -283,19 +283,19 @@ else_nests n m first second one other =
     then (then (deeper (n + 1) (max n m + 1) first (omega (arith, le-max_left n m)) one) (mark (max n m + 1) (codes " else ") refl))
     (lined (deeper (m + 1) (max n m + 1) second (omega (arith, le-max_right n m)) other))
 
-else_parts : (blank test first second : List ℕ) → blank ++ codes "if (" ++ test ++ codes ") " ++ (first ++ codes " else " ++ second) ≡ blank ++ codes "if (" ++ test ++ codes ") " ++ first ++ codes " else " ++ second
-else_parts blank test first second = simp append_assoc
+else_parts : (front test first second : List ℕ) → front ++ codes "if (" ++ test ++ codes ") " ++ (first ++ codes " else " ++ second) ≡ front ++ codes "if (" ++ test ++ codes ") " ++ first ++ codes " else " ++ second
+else_parts front test first second = simp append_assoc
 
 mutual
   stmt_nests : (s : Stmt) (braces : ℕ) → StmtInSubset s → Nests (stmt_nested s) (stmt_text braces s)
   stmt_nests (Const x t e) braces inside =
-      statement (then (then (then (blanks braces) (const_nests (expr_nested e) t x inside.1 inside.0)) (mark (expr_nested e) (codes " = ") refl)) (expr_nests e inside.2))
+      statement (then (then (then (spaces braces) (const_nests (expr_nested e) t x inside.1 inside.0)) (mark (expr_nested e) (codes " = ") refl)) (expr_nests e inside.2))
   stmt_nests (ConstCall x t c) braces inside =
-      statement (then (then (then (blanks braces) (const_nests (call_nested c) t x inside.1 inside.0)) (mark (call_nested c) (codes " = ") refl)) (call_nests c inside.2))
+      statement (then (then (then (spaces braces) (const_nests (call_nested c) t x inside.1 inside.0)) (mark (call_nested c) (codes " = ") refl)) (call_nests c inside.2))
   stmt_nests (Object x b i) braces inside =
-      statement (then (then (blanks braces) (object_nests (first_value_nested i) b x inside.1 inside.0)) (first_value_nests i inside.2))
+      statement (then (then (spaces braces) (object_nests (first_value_nested i) b x inside.1 inside.0)) (first_value_nests i inside.2))
   stmt_nests (Assign place e) braces inside =
-      statement (then (then (then (blanks braces) (left (expr_nested e) (place_nests place inside.0))) (mark (max (place_nested place) (expr_nested e)) (codes " = ") refl)) (right (place_nested place) (expr_nests e inside.1)))
+      statement (then (then (then (spaces braces) (left (expr_nested e) (place_nests place inside.0))) (mark (max (place_nested place) (expr_nested e)) (codes " = ") refl)) (right (place_nested place) (expr_nests e inside.1)))
   stmt_nests (If e a) braces inside =
       test_nests (expr_nested e) (stmts_nested a) braces (expr_text e) (line (block_text braces (stmts_text (braces + 1) a))) (expr_nests e inside.0)
       (lined (block_nests (stmts_nested a) braces (stmts_text (braces + 1) a) (stmts_nest a (braces + 1) inside.1)))
@@ -309,10 +309,10 @@ mutual
       (block_nests (stmts_nested b) braces (stmts_text (braces + 1) b) (stmts_nest b (braces + 1) inside.2))))
   stmt_nests (Forever a) braces inside =
       loop_nests (stmts_nested a) braces (line (block_text braces (stmts_text (braces + 1) a))) (lined (block_nests (stmts_nested a) braces (stmts_text (braces + 1) a) (stmts_nest a (braces + 1) inside)))
-  stmt_nests Break braces inside = lined (then (blanks braces) (mark 0 (codes "break;") refl))
-  stmt_nests (Return e) braces inside = statement (then (blanks braces) (return_nests e inside))
-  stmt_nests (Block a) braces inside = then (blanks braces) (lined (block_nests (stmts_nested a) braces (stmts_text (braces + 1) a) (stmts_nest a (braces + 1) inside)))
-  stmt_nests (Call c) braces inside = statement (then (blanks braces) (call_nests c inside))
+  stmt_nests Break braces inside = lined (then (spaces braces) (mark 0 (codes "break;") refl))
+  stmt_nests (Return e) braces inside = statement (then (spaces braces) (return_nests e inside))
+  stmt_nests (Block a) braces inside = then (spaces braces) (lined (block_nests (stmts_nested a) braces (stmts_text (braces + 1) a) (stmts_nest a (braces + 1) inside)))
+  stmt_nests (Call c) braces inside = statement (then (spaces braces) (call_nests c inside))
 
   stmts_nest : (ss : Stmts) (braces : ℕ) → StmtsInSubset ss → Nests (stmts_nested ss) (stmts_text braces ss)
   stmts_nest Nil braces inside = empty 0

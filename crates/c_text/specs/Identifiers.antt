@@ -1,6 +1,6 @@
 -- Identifiers of the C subset (C99 6.4.2.1, 5.2.4.1): letters, digits and underscores, no digit first, at most 31 bytes,
 -- and no keyword of C99 (6.4.1), type name of the subset (7.18.1.1) or truth value (7.16).
-use Rattle.std.specs.Prelude.{◌≡◌, ℕ, ◌<◌, ◌≤◌, ◌==◌, ◌&&◌, ◌||◌, nat_le, Bool, false, List, [], ◌∷◌, length, codes, IsTrue}
+use Rattle.std.specs.Prelude.{◌≡◌, ℕ, ◌≤◌, ◌==◌, ◌&&◌, ◌||◌, nat_le, Bool, false, List, [], ◌∷◌, length, codes, IsTrue}
 use Rattle.std.specs.List.{list_any, list_all}
 use Rattle.iv_words.specs.Words.{same_word}
 

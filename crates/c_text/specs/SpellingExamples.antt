@@ -107,19 +107,19 @@ pub record UnitsAreWritten : Type 0 where
   pub with_parameters : function_text (record { hidden = false; name = codes "iv_b"; params = holding x (Value Truth) ∷ holding (codes "p") to_const_struct ∷ []; result = to_const_struct; body = rows (Return (Some value_of_x) ∷ []) })
       ≡ line (codes "struct A const *iv_b(bool const x, struct A const *const p) {") ++ line (codes "  return x;") ++ line (codes "}")
   pub pointer_out : unit_text (unit_with [] (
-        record { hidden = true; name = codes "iv_f"; params = []; result = Pointer false byte; body = rows (Object x byte (Some (One one)) ∷ Return (Some (Address (Var x))) ∷ []) } ∷
-        record { hidden = false; name = codes "iv_g"; params = []; result = Value (Int U8); body = rows (ConstCall (codes "p") (Pointer false byte) (calling (codes "iv_f") []) ∷ Return (Some (Read (At (Read (Var (codes "p")))))) ∷ []) } ∷ []))
+      record { hidden = true; name = codes "iv_f"; params = []; result = Pointer false byte; body = rows (Object x byte (Some (One one)) ∷ Return (Some (Address (Var x))) ∷ []) } ∷
+      record { hidden = false; name = codes "iv_g"; params = []; result = Value (Int U8); body = rows (ConstCall (codes "p") (Pointer false byte) (calling (codes "iv_f") []) ∷ Return (Some (Read (At (Read (Var (codes "p")))))) ∷ []) } ∷ []))
       ≡ line (codes "#include <stdint.h>") ++ line (codes "#include <stdbool.h>") ++ line (codes "extern void ivory_stop(uint32_t);")
       ++ line (codes "static uint8_t *iv_f(void) {") ++ line (codes "  uint8_t x = 1;") ++ line (codes "  return (&x);") ++ line (codes "}")
       ++ line (codes "uint8_t iv_g(void) {") ++ line (codes "  uint8_t *const p = iv_f();") ++ line (codes "  return (*p);") ++ line (codes "}")
   pub nothing : unit_text (unit_with [] [])
       ≡ line (codes "#include <stdint.h>") ++ line (codes "#include <stdbool.h>") ++ line (codes "extern void ivory_stop(uint32_t);")
   pub in_order : unit_text (record {
-        structs = record { name = codes "A"; members = record { name = x; base = byte; length = None } ∷ [] } ∷ [];
-        externs = record { name = codes "iv_p"; params = []; result = Void } ∷ [];
-        objects = record { name = codes "iv_x"; constant = false; base = byte; init = One one } ∷ [];
-        functions = procedure false (codes "iv_g") [] ∷ procedure true (codes "iv_h") [] ∷ [];
-      })
+    structs = record { name = codes "A"; members = record { name = x; base = byte; length = None } ∷ [] } ∷ [];
+    externs = record { name = codes "iv_p"; params = []; result = Void } ∷ [];
+    objects = record { name = codes "iv_x"; constant = false; base = byte; init = One one } ∷ [];
+    functions = procedure false (codes "iv_g") [] ∷ procedure true (codes "iv_h") [] ∷ [];
+  })
       ≡ line (codes "#include <stdint.h>") ++ line (codes "#include <stdbool.h>") ++ line (codes "extern void ivory_stop(uint32_t);")
       ++ line (codes "struct A {") ++ line (codes "  uint8_t x;") ++ line (codes "};") ++ line (codes "extern void iv_p(void);") ++ line (codes "static uint8_t iv_x = 1;")
       ++ line (codes "void iv_g(void) {") ++ line (codes "}") ++ line (codes "static void iv_h(void) {") ++ line (codes "}")

@@ -1,5 +1,5 @@
 -- A store gives a front of a text, one byte longer than a module's text can be: so what is said of the front is true of the whole.
-use Rattle.std.proofs.Common.{◌≡◌, ℕ, ◌+◌, ◌≤◌, List, [], length, take, Option, Some, None, refl, ◌∙◌, ap, subst, arith}
+use Rattle.std.proofs.Common.{◌≡◌, ℕ, ◌+◌, ◌≤◌, List, [], length, take, Option, Some, None, refl, sym, ◌∙◌, ap, subst, arith}
 use Rattle.std.proofs.lemmas.List.{take_all, length-take}
 use Rattle.iv_base.specs.Stores.{FileMap, text_of, Gives}
 use Rattle.ivory_lexer.specs.Limits.{source_limit}

@@ -1,7 +1,11 @@
 -- What the steps of a call answer to one another: the load, the reading, the compilation, the writing, and the report of a refusal.
 use Rattle.std.specs.Prelude.{◌≡◌, ℕ, ◌+◌, ◌≤◌, ◌⊎◌, List, Some, None, Result, Ok, Err}
 use Rattle.iv_base.specs.Stores.{Gives}
+use Rattle.ivory_tree.specs.View.{module_of}
+use Rattle.ivory_tree.specs.declared.Module.{Module}
 use Rattle.first_form.specs.declared.FirstModule.{FirstModule}
+use Rattle.first_form.specs.Stands.{Stands}
+use Rattle.first_form.specs.Valid.{Valid}
 use Rattle.c_ast.specs.declared.CUnit.{CUnit}
 use Rattle.c_ast.specs.declared.Target.TheVariants.{T32}
 use Rattle.c_ast.specs.View.{unit_of}
@@ -15,7 +19,7 @@ use Rattle.ivoryc.specs.declared.status.Status.TheVariants as status
 use Rattle.ivoryc.specs.Commands.{command}
 use Rattle.ivoryc.specs.Texts.{usage_line, read_fault_line, too_large_line, memory_line, not_built_line}
 use Rattle.module_text.specs.Lines.{fault_line}
-use Rattle.module_text.specs.Verdicts.{Verdict, TooLong, Faulty, Judged}
+use Rattle.module_text.specs.Verdicts.{Verdict, TooLong, Faulty, Reads, Judged}
 use Rattle.ivoryc.specs.Calls.{StoreSeen, SinkSeen, Change, Unchanged, Unread, Took, FailedAt, StandsUnder}
 use Rattle.ivoryc.specs.Promise.{FirstForm, IsUnbuilt, IsCompiled}
 

@@ -1,5 +1,5 @@
 -- The examples of cores.
-use Rattle.std.proofs.Common.{◌≡◌, ◌≢◌, ℕ, zero, suc, ◌+◌, ◌*◌, ◌<◌, Bool, true, false, List, [], ◌∷◌, length, refl, sym, arith, subst, inl}
+use Rattle.std.proofs.Common.{◌≡◌, ◌≢◌, ℕ, zero, suc, ◌+◌, ◌*◌, ◌<◌, Bool, true, false, List, [], ◌∷◌, length, refl, sym, arith, subst}
 use Rattle.std.specs.Prelude.{Some, None, ◌||◌, ◌&&◌, nat_lt, nat_eq, All, IsTrue, Contains}
 use Rattle.std.proofs.lemmas.List.Elements.{All-nil, All-cons, All-head, All-tail}
 use Rattle.std.proofs.lemmas.List.Kept.{AllPairs-cons}
@@ -75,7 +75,7 @@ sum_typed : ExprTyped (env_of adder [] the_proc) (below 2) sum
 sum_typed = (
   record { in_scope = (1, omega arith, refl); type = refl; unchecked = refl },
   record { in_scope = (0, omega arith, refl); type = refl; unchecked = refl },
-  record { is_for = refl; same = refl; type = refl; checked = record { of_kinds = refl; token = (check_at 0 60).span; together = all_one (λ c. c.span ≡ (check_at 0 60).span) (check_at 0 60) refl } },
+  record { is_for = refl; same = refl; type = refl; checked = record { of_kinds = refl; token = (check_at 0 60).span; together = refl } },
 )
 
 proc_typed : ProcTyped adder [] the_proc
@@ -86,7 +86,7 @@ proc_typed = record {
   params_first = refl;
   counted = refl;
   contracts = All-nil _;
-  body = ((refl, record { typed = (sum_typed, record { type = refl; unchecked = refl }); fits = inl refl; kept = refl }), refl, tt);
+  body = ((refl, record { typed = (sum_typed, record { type = refl; unchecked = refl }); fits = refl; kept = refl }), refl, tt);
   returns = refl;
 }
 

@@ -1,5 +1,5 @@
 -- When an expression of a core is well typed: its type comes from its parts, and its checks are those of the table of operators.
-use Rattle.std.specs.Prelude.{◌≡◌, ◌⊎◌, ℕ, ℤ, Bool, ◌||◌, not, List, [], map, All, Contains, slice_get, Some, IsTrue}
+use Rattle.std.specs.Prelude.{◌≡◌, ◌⊎◌, ℕ, ℤ, Bool, ◌||◌, not, List, [], map, Contains, slice_get, Some, IsTrue}
 use Rattle.iv_words.specs.declared.Span.{Span}
 use Rattle.iv_words.specs.declared.kind.IntKind.{IntKind}
 use Rattle.ivory_tree.specs.declared.expr.PrefixOp.{PrefixOp}
@@ -23,7 +23,7 @@ use Rattle.core_tree.specs.Environments.{Env, bit_field, struct_field}
 pub record Checked (checks : List Check) (kinds : List SiteKind) : Type 0 where
   pub of_kinds : map (λ c. c.kind) checks ≡ kinds
   pub token : Span
-  pub together : All (λ c. c.span ≡ token) checks
+  pub together : map (λ c. c.span) checks ≡ map (λ k. token) kinds
 
 -- ---- a record for each form, over the types of its parts
 

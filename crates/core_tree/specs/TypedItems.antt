@@ -2,7 +2,7 @@
 use Rattle.std.specs.Prelude.{◌≡◌, ℕ, zero, suc, ◌+◌, ℤ, Bool, true, false, ◌||◌, not, if◌then◌else◌, List, [], ◌∷◌, map, length, take, All, Option, Some, None, is_none, IsTrue}
 use Rattle.std.specs.List.{list_all}
 use Rattle.type_trees.specs.Trees.{scalars}
-use Rattle.area_types.specs.Syntax.{ValueType, Truth, Ref}
+use Rattle.area_types.specs.Syntax.{ValueType, Truth, Int, Ix, Bits, Ref}
 use Rattle.area_types.specs.Tables.{Table, written_out}
 use Rattle.region_check.specs.Found.{is_numbered, region_count}
 use Rattle.core_tree.specs.declared.check.SiteKind.TheVariants as kind
@@ -39,7 +39,11 @@ pub record ParamsTyped (table : Table) (params : List ValueType) : Type 0 where
 -- all that an import can write behind a reference is bool or integers
 abbrev pub is_given_plain : Table → ValueType → Bool
 is_given_plain table (Ref false region area) = list_all is_plain (scalars (written_out table area))
-is_given_plain table _ = true
+is_given_plain table (Ref true region area) = true
+is_given_plain table Truth = true
+is_given_plain table (Int kind) = true
+is_given_plain table (Ix n) = true
+is_given_plain table (Bits k) = true
 
 pub record ImportTyped (m : ModuleCore) (i : ImportCore) : Type 0 where
   pub params : ParamsTyped m.structs i.params

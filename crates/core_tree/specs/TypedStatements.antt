@@ -64,7 +64,7 @@ pub record LoopTyped (env : Env) (at : Point) (number length : ℕ) : Type 0 whe
 abbrev pub BoundTyped : Env → Point → (length : ℕ) → ExprCore → Type 0
 BoundTyped env at length bound = HasType env at.scope bound (Ix length)
 
--- the returned value fits the result, and is no reference to an area of the procedure's own
+-- the returned value fits the result; so it is no reference to an area of the procedure's own, which `kept` repeats
 pub record Returned (env : Env) (at : Point) (value : ExprCore) (wanted : ValueType) : Type 0 where
   pub typed : ExprTyped env at.scope value
   pub fits : Fits wanted (type_of value)

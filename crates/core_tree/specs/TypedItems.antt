@@ -4,6 +4,7 @@ use Rattle.std.specs.List.{list_all}
 use Rattle.type_trees.specs.Trees.{scalars}
 use Rattle.area_types.specs.Syntax.{ValueType, Truth, Int, Ix, Bits, Ref}
 use Rattle.area_types.specs.Tables.{Table, written_out}
+use Rattle.area_types.specs.declared.region.Region.TheVariants.{Global, Param, Own}
 use Rattle.region_check.specs.Found.{is_numbered, region_count}
 use Rattle.core_tree.specs.declared.check.SiteKind.TheVariants as kind
 use Rattle.core_tree.specs.Syntax.{AreaCore, ImportCore, ContractCore, ProcCore, ModuleCore}
@@ -51,6 +52,20 @@ pub record ImportTyped (m : ModuleCore) (i : ImportCore) : Type 0 where
 
 -- ---- procedures
 
+-- a reference to an area of the procedure's own
+abbrev pub is_own : Table → ValueType → Bool
+is_own table Truth = false
+is_own table (Int kind) = false
+is_own table (Ix n) = false
+is_own table (Bits k) = false
+is_own table (Ref constant Global area) = false
+is_own table (Ref constant (Param j) area) = false
+is_own table (Ref constant Own area) = is_core_area table area
+
+-- a type of a local
+abbrev pub is_local_type : Table → (regions : ℕ) → ValueType → Bool
+is_local_type table regions ty = is_type table regions ty || is_own table ty
+
 abbrev pub param_types : ProcCore → List ValueType
 param_types p = map (λ x. x.ty) p.params
 
@@ -94,6 +109,7 @@ pub record ProcTyped (m : ModuleCore) (earlier : List ProcCore) (p : ProcCore) :
   pub result : IsTrue (is_result m.structs p p.result)
   pub exported : IsTrue p.exported → ExportTyped p
   pub params_first : take (length p.params) p.locals ≡ param_types p
+  pub local_types : All (λ t. IsTrue (is_local_type m.structs (region_count 0 (param_types p)) t)) p.locals
   pub counted : length p.locals ≡ length p.params + all_locals p.body
   pub contracts : All (ContractTyped (env_of m earlier p) (below (length p.params))) p.contracts
   pub body : StmtsTyped (env_of m earlier p) (start p) p.body

@@ -1,5 +1,5 @@
 -- The examples of cores.
-use Rattle.std.proofs.Common.{◌≡◌, ◌≢◌, ℕ, zero, suc, ◌+◌, ◌*◌, ◌<◌, Bool, true, false, List, [], ◌∷◌, length, refl, sym, arith, subst, inl}
+use Rattle.std.proofs.Common.{◌≡◌, ◌≢◌, ℕ, zero, suc, ◌+◌, ◌*◌, ◌<◌, Bool, true, false, List, [], ◌∷◌, length, refl, sym, arith, subst}
 use Rattle.std.specs.Prelude.{Some, None, ◌||◌, ◌&&◌, nat_lt, nat_eq, All, IsTrue, Contains}
 use Rattle.std.proofs.lemmas.List.Elements.{All-nil, All-cons, All-head, All-tail}
 use Rattle.std.proofs.lemmas.List.Kept.{AllPairs-cons}
@@ -12,7 +12,7 @@ use Rattle.core_tree.specs.Names.{AllDifferent, ParamsApart, NamesApart, item_na
 use Rattle.core_tree.specs.Sites.{Ascends, IsNumberedFrom}
 use Rattle.core_tree.specs.TypedExpressions.{ExprTyped}
 use Rattle.core_tree.specs.Types.{is_type, is_plain}
-use Rattle.core_tree.specs.TypedItems.{ProcTyped, env_of, below}
+use Rattle.core_tree.specs.TypedItems.{ProcTyped, is_local_type, env_of, below}
 use Rattle.core_tree.specs.Valid.{ValidCore, ProcsTyped}
 use Rattle.core_tree.specs.Examples as example
 use Rattle.core_tree.specs.Examples.{AdderIsValid, NumbersFollowTokens, OwnStays, CallsGoBack, DivisorsComeFirst}
@@ -75,7 +75,8 @@ sum_typed : ExprTyped (env_of adder [] the_proc) (below 2) sum
 sum_typed = (
   record { in_scope = (1, omega arith, refl); type = refl; unchecked = refl },
   record { in_scope = (0, omega arith, refl); type = refl; unchecked = refl },
-  record { is_for = refl; same = refl; type = refl; checked = record { of_kinds = refl; token = (check_at 0 60).span; together = all_one (λ c. c.span ≡ (check_at 0 60).span) (check_at 0 60) refl } },
+  record { is_for = refl; same = refl; type = refl; checked = record { of_kinds = refl; token = (check_at 0 60).span; together = refl } },
+  refl,
 )
 
 proc_typed : ProcTyped adder [] the_proc
@@ -84,9 +85,10 @@ proc_typed = record {
   result = refl;
   exported = λ h. record { params = all_two (λ t. IsTrue (is_plain t)) example.u8 example.u8 refl refl; result = refl };
   params_first = refl;
+  local_types = all_two (λ t. IsTrue (is_local_type adder.structs 0 t)) example.u8 example.u8 refl refl;
   counted = refl;
   contracts = All-nil _;
-  body = ((refl, record { typed = (sum_typed, record { type = refl; unchecked = refl }); fits = inl refl; kept = refl }), refl, tt);
+  body = ((refl, record { typed = (sum_typed, record { type = refl; unchecked = refl }, refl); fits = refl; kept = refl }), refl, tt);
   returns = refl;
 }
 
@@ -123,6 +125,7 @@ bare_typed name exported = record {
   result = refl;
   exported = λ h. record { params = All-nil _; result = refl };
   params_first = refl;
+  local_types = All-nil _;
   counted = refl;
   contracts = All-nil _;
   body = tt;

@@ -1,4 +1,4 @@
--- All checks of a core, each where it stands.
+-- All checks of a core, in any order: Sites orders them.
 use Rattle.std.specs.Prelude.{List, [], ◌∷◌, ◌++◌, Some, None}
 use Rattle.std.specs.List.{flat_map}
 use Rattle.core_tree.specs.declared.check.Check.{Check}

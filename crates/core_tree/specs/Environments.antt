@@ -10,7 +10,7 @@ use Rattle.area_types.specs.Syntax as types
 use Rattle.area_types.specs.Syntax.{ValueType, Area}
 use Rattle.area_types.specs.View.{struct_of}
 use Rattle.bit_data.specs.declared.layout.FieldBits.{FieldBits}
-use Rattle.core_tree.specs.Syntax.{ProcCore, ModuleCore, CallCore, StmtCore, Let, LetCall, Alloc, If, IfElse, Map, Upto, Downto, Forever, NoAlloc, NoBreak, NoReturn, StmtsCore, NoStmts, MoreStmts}
+use Rattle.core_tree.specs.Syntax.{ProcCore, ModuleCore, CallCore, StmtCore, Let, LetCall, Alloc, Store, Copy, Call, If, IfElse, Map, Upto, Downto, Forever, Break, Return, Assert, NoAlloc, NoBreak, NoReturn, StmtsCore, NoStmts, MoreStmts}
 
 -- the module, the procedures before this one, the types of its locals, its result, and in an `ensures` the type of `result`
 pub record Env : Type 0 where
@@ -69,7 +69,12 @@ abbrev mutual
   locals_in (NoAlloc body) = all_locals body
   locals_in (NoBreak body) = all_locals body
   locals_in (NoReturn body) = all_locals body
-  locals_in _ = 0
+  locals_in (Store target value) = 0
+  locals_in (Copy target source) = 0
+  locals_in (Call call) = 0
+  locals_in Break = 0
+  locals_in (Return value) = 0
+  locals_in (Assert cond check) = 0
 
   pub all_locals : StmtsCore → ℕ
   all_locals NoStmts = 0
@@ -80,7 +85,21 @@ abbrev pub named_by : StmtCore → List ℕ
 named_by (Let number value) = number ∷ []
 named_by (LetCall number call) = number ∷ []
 named_by (Alloc number area init) = number ∷ []
-named_by _ = []
+named_by (Store target value) = []
+named_by (Copy target source) = []
+named_by (Call call) = []
+named_by (If test first) = []
+named_by (IfElse test first second) = []
+named_by (Map number length body) = []
+named_by (Upto number length bound body) = []
+named_by (Downto number length bound body) = []
+named_by (Forever body) = []
+named_by Break = []
+named_by (Return value) = []
+named_by (Assert cond check) = []
+named_by (NoAlloc body) = []
+named_by (NoBreak body) = []
+named_by (NoReturn body) = []
 
 -- where the next statement of the block stands
 abbrev pub after : StmtCore → Point → Point

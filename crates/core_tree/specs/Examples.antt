@@ -74,7 +74,7 @@ AdderIsValid = ValidCore (adder (returned (Whole (plain u8) (sum_at 0 60 a b))))
 abbrev pub NumbersFollowTokens : Type 0
 NumbersFollowTokens = ValidCore (adder (returned (Whole (plain u8) (sum_at 0 64 (sum_at 1 60 a b) a)))) → ⊥
 
--- `proc f() -> ref global uint8_t { alloc x : uint8_t; return x; }`, and with any other type of result and of x
+-- `proc f() -> ref global uint8_t { alloc x : uint8_t; return x; }`, and with any other type of result
 abbrev pub OwnStays : Type 0
 OwnStays = (result : Option ValueType) → ValidCore (procs (record (proc 102 (MoreStmts (Alloc 0 (types.Stored u8) None) (returned (Local (plain (types.Ref false region.Own (types.Stored u8))) 0)))) { result = result; locals = types.Ref false region.Own (types.Stored u8) ∷ [] } ∷ [])) → ⊥
 

@@ -9,6 +9,7 @@ pub mod Checks
 pub mod Sites
 pub mod Types
 pub mod Operators
+pub mod Settled
 pub mod Falling
 pub mod Environments
 pub mod TypedExpressions

@@ -45,7 +45,9 @@ prefix_is_for Deref ty = false
 
 abbrev pub prefix_checks : PrefixOp → List SiteKind
 prefix_checks Neg = Overflow ∷ []
-prefix_checks _ = []
+prefix_checks Not = []
+prefix_checks Flip = []
+prefix_checks Deref = []
 
 -- ---- operators between two operands of one type
 
@@ -80,7 +82,21 @@ result_of Lt ty = Truth
 result_of Le ty = Truth
 result_of Gt ty = Truth
 result_of Ge ty = Truth
-result_of op ty = ty
+result_of OrElse ty = ty
+result_of AndAlso ty = ty
+result_of Or ty = ty
+result_of Xor ty = ty
+result_of And ty = ty
+result_of Shl ty = ty
+result_of Shr ty = ty
+result_of Add ty = ty
+result_of Sub ty = ty
+result_of Mul ty = ty
+result_of Div ty = ty
+result_of Rem ty = ty
+result_of WrapAdd ty = ty
+result_of WrapSub ty = ty
+result_of WrapMul ty = ty
 
 -- the quotient of the least number by -1 does not fit
 abbrev pub division_checks : ValueType → List SiteKind
@@ -94,7 +110,20 @@ checks_for Div ty = division_checks ty
 checks_for Rem ty = division_checks ty
 checks_for Shl ty = Shift ∷ []
 checks_for Shr ty = Shift ∷ []
-checks_for op ty = []
+checks_for OrElse ty = []
+checks_for AndAlso ty = []
+checks_for Or ty = []
+checks_for Xor ty = []
+checks_for And ty = []
+checks_for Eq ty = []
+checks_for Ne ty = []
+checks_for Lt ty = []
+checks_for Le ty = []
+checks_for Gt ty = []
+checks_for Ge ty = []
+checks_for WrapAdd ty = []
+checks_for WrapSub ty = []
+checks_for WrapMul ty = []
 
 -- ---- conversions and bit data
 

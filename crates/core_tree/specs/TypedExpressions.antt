@@ -1,5 +1,5 @@
 -- When an expression of a core is well typed: its type comes from its parts, and its checks are those of the table of operators.
-use Rattle.std.specs.Prelude.{◌≡◌, ◌⊎◌, ℕ, ℤ, Bool, ◌||◌, not, List, [], map, All, Contains, slice_get, Some, IsTrue}
+use Rattle.std.specs.Prelude.{◌≡◌, ◌⊎◌, ℕ, ℤ, Bool, ◌||◌, not, List, [], map, Contains, slice_get, Some, IsTrue}
 use Rattle.iv_words.specs.declared.Span.{Span}
 use Rattle.iv_words.specs.declared.kind.IntKind.{IntKind}
 use Rattle.ivory_tree.specs.declared.expr.PrefixOp.{PrefixOp}
@@ -17,13 +17,14 @@ use Rattle.core_tree.specs.declared.check.Check.{Check}
 use Rattle.core_tree.specs.Syntax.{Label, ExprCore, Number, Outcome, Local, AreaName, Cast, ToIndex, WrapIndex, MakeBits, Raw, SetField, Prefix, Binary, Field, Element, Cond, Whole, AreaCore, type_of}
 use Rattle.core_tree.specs.Types.{is_type, is_reference, is_plain, is_value}
 use Rattle.core_tree.specs.Operators.{is_integer, is_index_type, prefix_is_for, prefix_checks, is_for, result_of, checks_for, cast_checks, index_checks, field_type, set_checks}
+use Rattle.core_tree.specs.Settled.{is_settled, are_settled, is_operated}
 use Rattle.core_tree.specs.Environments.{Env, bit_field, struct_field}
 
 -- checks of these kinds in order, all at one token
 pub record Checked (checks : List Check) (kinds : List SiteKind) : Type 0 where
   pub of_kinds : map (λ c. c.kind) checks ≡ kinds
   pub token : Span
-  pub together : All (λ c. c.span ≡ token) checks
+  pub together : map (λ c. c.span) checks ≡ map (λ k. token) kinds
 
 -- ---- a record for each form, over the types of its parts
 
@@ -159,6 +160,10 @@ pub record WholeTyped (l : Label) (inner : ValueType) : Type 0 where
 
 -- ---- expressions
 
+-- an operand of `T(e)` without a type of its own is wanted as T
+abbrev pub CastSettled : Label → ExprCore → Type 0
+CastSettled l e = IsTrue (is_settled e) ⊎ (type_of e ≡ l.ty)
+
 abbrev pub PrefixedTyped : Label → PrefixOp → ValueType → Type 0
 PrefixedTyped l prefix.Deref from = DerefTyped l from
 PrefixedTyped l op from = PrefixTyped l op from
@@ -169,18 +174,18 @@ ExprTyped env scope (Number l value) = NumberTyped env l value
 ExprTyped env scope (Outcome l) = OutcomeTyped env l
 ExprTyped env scope (Local l number) = LocalTyped env scope l number
 ExprTyped env scope (AreaName l number) = AreaNameTyped env l number
-ExprTyped env scope (Cast l e) = ExprTyped env scope e × CastTyped l (type_of e)
-ExprTyped env scope (ToIndex l e) = ExprTyped env scope e × ToIndexTyped l (type_of e)
-ExprTyped env scope (WrapIndex l e) = ExprTyped env scope e × WrapIndexTyped l (type_of e)
+ExprTyped env scope (Cast l e) = ExprTyped env scope e × CastTyped l (type_of e) × CastSettled l e
+ExprTyped env scope (ToIndex l e) = ExprTyped env scope e × ToIndexTyped l (type_of e) × IsTrue (is_settled e)
+ExprTyped env scope (WrapIndex l e) = ExprTyped env scope e × WrapIndexTyped l (type_of e) × IsTrue (is_settled e)
 ExprTyped env scope (MakeBits l e) = ExprTyped env scope e × IsWordOf env l.ty (type_of e) × (l.checks ≡ [])
 ExprTyped env scope (Raw l e) = ExprTyped env scope e × IsWordOf env (type_of e) l.ty × (l.checks ≡ [])
 ExprTyped env scope (SetField l e field value) = ExprTyped env scope e × ExprTyped env scope value × SetFieldTyped env l (type_of e) field (type_of value)
 ExprTyped env scope (Prefix l op e) = ExprTyped env scope e × PrefixedTyped l op (type_of e)
-ExprTyped env scope (Binary l op left right) = ExprTyped env scope left × ExprTyped env scope right × BinaryTyped l op (type_of left) (type_of right)
+ExprTyped env scope (Binary l op left right) = ExprTyped env scope left × ExprTyped env scope right × BinaryTyped l op (type_of left) (type_of right) × IsTrue (are_settled op left right)
 ExprTyped env scope (Field l e field) = ExprTyped env scope e × (BitFieldTyped env l (type_of e) field ⊎ StructFieldTyped env l (type_of e) field)
 ExprTyped env scope (Element l e index) = ExprTyped env scope e × ExprTyped env scope index × ElementTyped l (type_of e) (type_of index)
 ExprTyped env scope (Cond l test first second) = ExprTyped env scope test × ExprTyped env scope first × ExprTyped env scope second × CondTyped l (type_of test) (type_of first) (type_of second)
-ExprTyped env scope (Whole l e) = ExprTyped env scope e × WholeTyped l (type_of e)
+ExprTyped env scope (Whole l e) = ExprTyped env scope e × WholeTyped l (type_of e) × IsTrue (is_operated e)
 
 -- an expression of this type
 pub record HasType (env : Env) (scope : List ℕ) (e : ExprCore) (ty : ValueType) : Type 0 where

@@ -1,5 +1,5 @@
 -- When an initializer of a core fits an area: an expression a stored value, and a list of initializers the first elements or fields.
-use Rattle.std.specs.Prelude.{ℕ, suc, Bool, true, false, nat_lt, if◌then◌else◌, Option, Some, None, IsTrue, List}
+use Rattle.std.specs.Prelude.{ℕ, suc, nat_lt, if◌then◌else◌, Option, Some, None, List}
 use Rattle.area_types.specs.Syntax.{Area, Stored, Array, Struct}
 use Rattle.core_tree.specs.Syntax.{ModuleCore, InitCore, One, Many, InitsCore, NoInits, MoreInits}
 use Rattle.core_tree.specs.Environments.{Env, struct_field}
@@ -11,10 +11,6 @@ place m (Stored held) i = None
 place m (Array n element) i = if nat_lt i n then Some element else None
 place m (Struct number) i = struct_field m number i
 
-abbrev pub has_places : Area → Bool
-has_places (Stored held) = false
-has_places _ = true
-
 -- the initializer fits the area, where there is one
 abbrev mutual
   pub InitTyped : Env → (scope : List ℕ) → Option Area → InitCore → Type 0
@@ -22,7 +18,9 @@ abbrev mutual
   InitTyped env scope (Some (Stored held)) (One e) = HasType env scope e held
   InitTyped env scope (Some (Array n element)) (One e) = ⊥
   InitTyped env scope (Some (Struct number)) (One e) = ⊥
-  InitTyped env scope (Some area) (Many inits) = IsTrue (has_places area) × InitsTyped env scope area 0 inits
+  InitTyped env scope (Some (Stored held)) (Many inits) = ⊥
+  InitTyped env scope (Some (Array n element)) (Many inits) = InitsTyped env scope (Array n element) 0 inits
+  InitTyped env scope (Some (Struct number)) (Many inits) = InitsTyped env scope (Struct number) 0 inits
 
   -- they fit the places from i on
   pub InitsTyped : Env → (scope : List ℕ) → Area → (i : ℕ) → InitsCore → Type 0

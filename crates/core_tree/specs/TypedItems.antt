@@ -2,8 +2,9 @@
 use Rattle.std.specs.Prelude.{◌≡◌, ℕ, zero, suc, ◌+◌, ℤ, Bool, true, false, ◌||◌, not, if◌then◌else◌, List, [], ◌∷◌, map, length, take, All, Option, Some, None, is_none, IsTrue}
 use Rattle.std.specs.List.{list_all}
 use Rattle.type_trees.specs.Trees.{scalars}
-use Rattle.area_types.specs.Syntax.{ValueType, Truth, Ref}
+use Rattle.area_types.specs.Syntax.{ValueType, Truth, Int, Ix, Bits, Ref}
 use Rattle.area_types.specs.Tables.{Table, written_out}
+use Rattle.area_types.specs.declared.region.Region.TheVariants.{Global, Param, Own}
 use Rattle.region_check.specs.Found.{is_numbered, region_count}
 use Rattle.core_tree.specs.declared.check.SiteKind.TheVariants as kind
 use Rattle.core_tree.specs.Syntax.{AreaCore, ImportCore, ContractCore, ProcCore, ModuleCore}
@@ -39,13 +40,31 @@ pub record ParamsTyped (table : Table) (params : List ValueType) : Type 0 where
 -- all that an import can write behind a reference is bool or integers
 abbrev pub is_given_plain : Table → ValueType → Bool
 is_given_plain table (Ref false region area) = list_all is_plain (scalars (written_out table area))
-is_given_plain table _ = true
+is_given_plain table (Ref true region area) = true
+is_given_plain table Truth = true
+is_given_plain table (Int kind) = true
+is_given_plain table (Ix n) = true
+is_given_plain table (Bits k) = true
 
 pub record ImportTyped (m : ModuleCore) (i : ImportCore) : Type 0 where
   pub params : ParamsTyped m.structs i.params
   pub given : All (λ t. IsTrue (is_given_plain m.structs t)) i.params
 
 -- ---- procedures
+
+-- a reference to an area of the procedure's own
+abbrev pub is_own : Table → ValueType → Bool
+is_own table Truth = false
+is_own table (Int kind) = false
+is_own table (Ix n) = false
+is_own table (Bits k) = false
+is_own table (Ref constant Global area) = false
+is_own table (Ref constant (Param j) area) = false
+is_own table (Ref constant Own area) = is_core_area table area
+
+-- a type of a local
+abbrev pub is_local_type : Table → (regions : ℕ) → ValueType → Bool
+is_local_type table regions ty = is_type table regions ty || is_own table ty
 
 abbrev pub param_types : ProcCore → List ValueType
 param_types p = map (λ x. x.ty) p.params
@@ -90,6 +109,7 @@ pub record ProcTyped (m : ModuleCore) (earlier : List ProcCore) (p : ProcCore) :
   pub result : IsTrue (is_result m.structs p p.result)
   pub exported : IsTrue p.exported → ExportTyped p
   pub params_first : take (length p.params) p.locals ≡ param_types p
+  pub local_types : All (λ t. IsTrue (is_local_type m.structs (region_count 0 (param_types p)) t)) p.locals
   pub counted : length p.locals ≡ length p.params + all_locals p.body
   pub contracts : All (ContractTyped (env_of m earlier p) (below (length p.params))) p.contracts
   pub body : StmtsTyped (env_of m earlier p) (start p) p.body

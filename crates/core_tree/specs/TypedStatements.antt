@@ -11,6 +11,7 @@ use Rattle.region_check.specs.Substitutions.{escapes}
 use Rattle.core_tree.specs.declared.check.SiteKind.TheVariants as kind
 use Rattle.core_tree.specs.Syntax.{ExprCore, InitCore, CallCore, StmtCore, Let, LetCall, Alloc, Store, Copy, Call, If, IfElse, Map, Upto, Downto, Forever, Break, Return, Assert, NoAlloc, NoBreak, NoReturn, StmtsCore, NoStmts, MoreStmts, type_of}
 use Rattle.core_tree.specs.Types.{is_core_area, Fits}
+use Rattle.core_tree.specs.Settled.{is_settled}
 use Rattle.core_tree.specs.Falling.{stmt_falls}
 use Rattle.core_tree.specs.Environments.{Env, Point, all_locals, after, skipping, narrowing, looping, within_loop}
 use Rattle.core_tree.specs.TypedExpressions.{ExprTyped, HasType}
@@ -22,8 +23,10 @@ pub record IsNext (env : Env) (at : Point) (number : ℕ) (ty : ValueType) : Typ
   pub number_is : number ≡ at.next
   pub type : slice_get env.locals number ≡ Some ty
 
+-- nothing is wanted of the value
 pub record LetTyped (env : Env) (at : Point) (number : ℕ) (value : ExprCore) : Type 0 where
   pub typed : ExprTyped env at.scope value
+  pub settled : IsTrue (is_settled value)
   pub name : IsNext env at number (type_of value)
 
 pub record LetCallTyped (env : Env) (at : Point) (number : ℕ) (call : CallCore) : Type 0 where
@@ -64,7 +67,7 @@ pub record LoopTyped (env : Env) (at : Point) (number length : ℕ) : Type 0 whe
 abbrev pub BoundTyped : Env → Point → (length : ℕ) → ExprCore → Type 0
 BoundTyped env at length bound = HasType env at.scope bound (Ix length)
 
--- the returned value fits the result, and is no reference to an area of the procedure's own
+-- the returned value fits the result; so it is no reference to an area of the procedure's own, which `kept` repeats
 pub record Returned (env : Env) (at : Point) (value : ExprCore) (wanted : ValueType) : Type 0 where
   pub typed : ExprTyped env at.scope value
   pub fits : Fits wanted (type_of value)

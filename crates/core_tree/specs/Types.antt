@@ -1,5 +1,5 @@
 -- Types of values in a core: which there are, which numbers they have, and when one fits another.
-use Rattle.std.specs.Prelude.{◌≡◌, ◌⊎◌, ℕ, ℤ, pos, ◌-ℤ◌, nat_lt, int_le, Bool, true, false, ◌&&◌, length, slice_get, Option, Some, None}
+use Rattle.std.specs.Prelude.{◌≡◌, ℕ, ℤ, pos, ◌-ℤ◌, nat_lt, int_le, Bool, true, false, ◌&&◌, length, slice_get, Option, Some, None, IsTrue}
 use Rattle.iv_words.specs.declared.kind.IntKind.{IntKind}
 use Rattle.iv_words.specs.Kinds.{least, greatest, in_range}
 use Rattle.index_types.specs.Indices.{is_index}
@@ -7,6 +7,7 @@ use Rattle.area_types.specs.Syntax.{ValueType, Truth, Int, Ix, Bits, Ref, Area}
 use Rattle.area_types.specs.Tables.{Table, is_length, is_area, has_index_lengths}
 use Rattle.area_types.specs.declared.region.Region.{Region}
 use Rattle.area_types.specs.declared.region.Region.TheVariants.{Global, Param, Own}
+use Rattle.region_check.specs.Calls.{may_stand_for}
 
 -- ---- areas and types
 
@@ -28,8 +29,11 @@ is_type table regions (Bits k) = nat_lt k (length table.words)
 is_type table regions (Ref constant region area) = is_region regions region && is_core_area table area
 
 abbrev pub is_reference : ValueType → Bool
+is_reference Truth = false
+is_reference (Int kind) = false
+is_reference (Ix n) = false
+is_reference (Bits k) = false
 is_reference (Ref constant region area) = true
-is_reference _ = false
 
 -- bool or an integer
 abbrev pub is_plain : ValueType → Bool
@@ -63,10 +67,14 @@ has_indices_of n kind = is_index n (least kind) && is_index n (greatest kind)
 
 -- ---- fitting
 
-abbrev pub as_const : ValueType → ValueType
-as_const (Ref constant region area) = Ref true region area
-as_const other = other
-
 -- A type fits where it is the wanted one, and a mutable reference also where a const one of the same region and area is wanted.
 abbrev pub Fits : (wanted given : ValueType) → Type 0
-Fits wanted given = (given ≡ wanted) ⊎ (as_const given ≡ wanted)
+Fits Truth given = given ≡ Truth
+Fits (Int kind) given = given ≡ Int kind
+Fits (Ix n) given = given ≡ Ix n
+Fits (Bits k) given = given ≡ Bits k
+Fits (Ref c r a) Truth = ⊥
+Fits (Ref c r a) (Int kind) = ⊥
+Fits (Ref c r a) (Ix n) = ⊥
+Fits (Ref c r a) (Bits k) = ⊥
+Fits (Ref c r a) (Ref d s b) = (s ≡ r) × (b ≡ a) × IsTrue (may_stand_for d c)

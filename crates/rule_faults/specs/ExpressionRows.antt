@@ -6,7 +6,7 @@ use Rattle.area_types.specs.Syntax.{ValueType, Area, StructType, Ref}
 use Rattle.region_check.specs.Calls.{reference_of, Passed}
 use Rattle.source_types.specs.Environments.{Earlier, Callee, callee_named}
 use Rattle.rule_faults.specs.Contexts.{Context}
-use Rattle.rule_faults.specs.Types.{type_of}
+use Rattle.rule_faults.specs.Types.{own_type}
 use Rattle.rule_faults.specs.Wants.{Want, Nothing, Unknown, Wants, of_operand, of_arm, beside, of_cast, of_word, of_new_value, of_index, of_argument}
 use Rattle.rule_faults.specs.Nodes.{Use, Within, Node, AType, AnArea, AnInit, ACall, AnExpr}
 
@@ -47,7 +47,7 @@ expr_row context want (Bare s e) = AnExpr context want (Bare s e) ∷ expr_row c
 
 -- a parameter with its argument, as region matching sees them
 abbrev pub passed : Context → Option ValueType → ExprSyntax → Passed
-passed context param arg = record { wanted = option_and_then reference_of param; given = option_and_then reference_of (type_of context param arg) }
+passed context param arg = record { wanted = option_and_then reference_of param; given = option_and_then reference_of (own_type context arg) }
 
 abbrev pub passed_all : Context → List (Option ValueType) → List ExprSyntax → List Passed
 passed_all context (p ∷ params) (e ∷ args) = passed context p e ∷ passed_all context params args
@@ -57,9 +57,10 @@ abbrev pub params_of : Option Callee → List (Option ValueType)
 params_of None = []
 params_of (Some c) = c.params
 
+-- of an argument without a parameter nothing is wanted
 abbrev pub args_row : Context → (before : List Passed) → List (Option ValueType) → List ExprSyntax → List Node
 args_row context before params [] = []
-args_row context before [] (e ∷ args) = expr_row context Unknown e ++ args_row context before [] args
+args_row context before [] (e ∷ args) = expr_row context Nothing e ++ args_row context before [] args
 args_row context before (p ∷ params) (e ∷ args) = expr_row context (of_argument before p) e ++ args_row context (before ++ passed context p e ∷ []) params args
 
 abbrev pub call_row : Context → CallSyntax → List Node

@@ -1,9 +1,9 @@
 -- Rules 1 to 3 and 8 to 17: names, lengths and sizes, bit data, what crosses the module's boundary, initializers.
-use Rattle.std.specs.Prelude.{ℕ, ◌+◌, pos, int_le, Bool, true, false, ◌&&◌, ◌||◌, not, if◌then◌else◌, nat_eq, nat_lt, List, length, filter_map, sum_by, slice_get, Option, Some, None, option_map, is_some}
+use Rattle.std.specs.Prelude.{ℕ, ◌+◌, pos, int_le, Bool, true, false, ◌&&◌, ◌||◌, not, if◌then◌else◌, nat_eq, nat_lt, List, [], length, filter_map, sum_by, slice_get, Option, Some, None, option_map, is_some}
 use Rattle.std.specs.List.{list_all}
 use Rattle.iv_words.specs.Kinds.{width, is_signed}
 use Rattle.iv_words.specs.declared.Name.{Name}
-use Rattle.ivory_tree.specs.Syntax.{IndexType, RefType, ArrayArea, ExprSyntax, Literal, Truth, ToIndex, WrapIndex, MakeBits, One, Many, InitsSyntax, NoInits, MoreInits, StmtSyntax, Let, LetCall, Alloc, Map, Upto, Downto, FieldSyntax, BitsData, Struct, Global, Import, Procedure}
+use Rattle.ivory_tree.specs.Syntax.{TypeSyntax, TruthType, IntType, IndexType, BitsType, RefType, ArrayArea, ExprSyntax, Literal, Truth, ToIndex, WrapIndex, MakeBits, One, Many, InitsSyntax, NoInits, MoreInits, StmtSyntax, Let, LetCall, Alloc, Map, Upto, Downto, FieldSyntax, BitsData, Struct, Global, Import, Procedure}
 use Rattle.ivory_tree.specs.declared.types.RegionText.TheVariants as region
 use Rattle.ivory_tree.specs.declared.items.BitField.{BitField}
 use Rattle.type_trees.specs.Trees as trees
@@ -11,9 +11,10 @@ use Rattle.area_types.specs.Syntax as types
 use Rattle.area_types.specs.Syntax.{ValueType, Area, StructType, Ref}
 use Rattle.area_types.specs.Trees.{Written, WrittenRow, tree_of, fields_of, trees_of}
 use Rattle.area_types.specs.Tables.{is_length, is_small}
+use Rattle.area_types.specs.declared.region.Region.TheVariants.{Global as GlobalRegion}
 use Rattle.source_types.specs.Values.{is_plain}
 use Rattle.source_types.specs.Environments.{Earlier, words, has_word, is_item, is_type_name}
-use Rattle.source_types.specs.Written.{type_in, area_in, field_in}
+use Rattle.source_types.specs.Written.{ref_type, type_in, area_in, field_in}
 use Rattle.rule_faults.specs.Contexts.{is_taken}
 use Rattle.rule_faults.specs.Nodes.{Exported, Imported, ForParam, ForResult, Node, AnItem, ABitField, AField, AParam, AType, AnArea, AnInit, AStatement, AnExpr}
 use Rattle.rule_faults.specs.Tests.{where_there}
@@ -98,10 +99,18 @@ abbrev pub rule_12 : Node → Bool
 rule_12 (AType earlier regions (ForResult boundary) (RefType s constant (region.Named name) area)) = not (has_word regions name)
 rule_12 _ = false
 
+-- the type, whatever its region: what crosses the boundary of a module is judged by what is stored
+abbrev pub type_but_region : Earlier → TypeSyntax → Option ValueType
+type_but_region earlier (RefType s constant named area) = ref_type constant (Some GlobalRegion) (area_in earlier area)
+type_but_region earlier (TruthType s) = type_in earlier [] (TruthType s)
+type_but_region earlier (IntType s kind) = type_in earlier [] (IntType s kind)
+type_but_region earlier (IndexType s n) = type_in earlier [] (IndexType s n)
+type_but_region earlier (BitsType s name) = type_in earlier [] (BitsType s name)
+
 -- 13 | parameter or result type | of an exported procedure and neither bool nor integer
 abbrev pub rule_13 : Node → Bool
-rule_13 (AType earlier regions (ForParam Exported) t) = where_there (type_in earlier regions t) (λ ty. not (is_plain ty))
-rule_13 (AType earlier regions (ForResult Exported) t) = where_there (type_in earlier regions t) (λ ty. not (is_plain ty))
+rule_13 (AType earlier regions (ForParam Exported) t) = where_there (type_but_region earlier t) (λ ty. not (is_plain ty))
+rule_13 (AType earlier regions (ForResult Exported) t) = where_there (type_but_region earlier t) (λ ty. not (is_plain ty))
 rule_13 _ = false
 
 -- each cell is a bool or an integer
@@ -121,8 +130,8 @@ gives_other_cells earlier _ = false
 
 -- 14 | parameter or result type | of an import: the result is neither bool nor integer, or a mutable reference has a cell that is neither
 abbrev pub rule_14 : Node → Bool
-rule_14 (AType earlier regions (ForParam Imported) t) = where_there (type_in earlier regions t) (gives_other_cells earlier)
-rule_14 (AType earlier regions (ForResult Imported) t) = where_there (type_in earlier regions t) (λ ty. not (is_plain ty))
+rule_14 (AType earlier regions (ForParam Imported) t) = where_there (type_but_region earlier t) (gives_other_cells earlier)
+rule_14 (AType earlier regions (ForResult Imported) t) = where_there (type_but_region earlier t) (λ ty. not (is_plain ty))
 rule_14 _ = false
 
 -- 15 | initializer | braces for a stored area, or an expression for an array or struct

@@ -1,5 +1,5 @@
 -- The nodes of statements and blocks. What a `let` or an `alloc` names is in scope from there to the end of its block.
-use Rattle.std.specs.Prelude.{ℕ, Bool, true, false, ◌&&◌, List, [], ◌∷◌, ◌++◌, Option, Some, None, option_map, option_and_then, unwrap_or}
+use Rattle.std.specs.Prelude.{ℕ, Bool, true, false, ◌&&◌, List, [], ◌∷◌, ◌++◌, Option, Some, None, option_map, option_and_then, unwrap_or, if◌then◌else◌}
 use Rattle.iv_words.specs.declared.Name.{Name}
 use Rattle.ivory_tree.specs.Syntax.{ExprSyntax, InitSyntax, CallSyntax, StmtSyntax, Let, LetCall, Alloc, Store, Copy, Call, If, IfElse, Map, Upto, Downto, Forever, Break, Return, Assert, NoAlloc, NoBreak, NoReturn, BlockSyntax, Braces, StmtsSyntax, NoStmts, MoreStmts}
 use Rattle.area_types.specs.Syntax as types
@@ -15,7 +15,7 @@ use Rattle.source_types.specs.Environments.{Callee, callee_named}
 use Rattle.source_types.specs.Written.{index_type, area_in}
 use Rattle.rule_faults.specs.Contexts.{Context, with_local, own_area}
 use Rattle.rule_faults.specs.Types.{own_type}
-use Rattle.rule_faults.specs.Wants.{Nothing, Wants, wants, of_stored, of_returned}
+use Rattle.rule_faults.specs.Wants.{Want, Nothing, Wants, wants, of_stored, of_returned}
 use Rattle.rule_faults.specs.Nodes.{Node, AStatement, ABlock}
 use Rattle.rule_faults.specs.ExpressionRows.{area_row, expr_row, passed_all, call_row, init_row}
 
@@ -48,9 +48,13 @@ abbrev pub alloc_row : Context → Option Area → Option InitSyntax → List No
 alloc_row context area None = []
 alloc_row context area (Some init) = init_row context false area init
 
+-- of the value of `return`: the result type; in a procedure without result nothing
+abbrev pub of_value : Context → Want
+of_value context = if context.gives then of_returned context.result else Nothing
+
 abbrev pub value_row : Context → Option ExprSyntax → List Node
 value_row context None = []
-value_row context (Some e) = expr_row context (of_returned context.result) e
+value_row context (Some e) = expr_row context (of_value context) e
 
 abbrev mutual
   -- `reached` says whether each statement before it in its block falls through

@@ -116,7 +116,7 @@ clean_args {env = env} {regions = regions} before (reference_arg {t = t} {wanted
     quiet_append (expr_row (context_of env) (of_argument before (Some t)) e) (args_row (context_of env) (before ++ passed (context_of env) (Some t) e ∷ []) params args)
     (ap (λ w. first_of (expr_row (context_of env) w e)) (takes_of before t wanted r)
     ∙ clean h (Takes (required (known before) wanted.region) wanted) (takes (context_of env) e regions before (core.type_of c) wanted given (has_settled h) (typed h None) g f a))
-    (clean_args (before ++ passed (context_of env) (Some t) e ∷ []) fit (all_fit_more regions before (passed (context_of env) (Some t) e) a (rw (r, typed h (Some t), g) f)))
+    (clean_args (before ++ passed (context_of env) (Some t) e ∷ []) fit (all_fit_more regions before (passed (context_of env) (Some t) e) a (rw (r, typed h None, g) f)))
 
 same_length : {env : Env} {regions : ℕ → Region} {params : List (Option ValueType)} {args : List ExprSyntax} {cs : List ExprCore} → Fit env regions params args cs → length params ≡ length args
 same_length no_args = refl

@@ -135,7 +135,7 @@ callee_there name (x ∷ callees) c h = go (callee_there name callees c) (same_w
     go ih false e g = rw (e, ih g) refl
 
 quiet_call : (context : Context) (call : CallSyntax) → rule_7 (ACall context call) ≡ false → rule_34 (ACall context call) ≡ false → least_broken (ACall context call) ≡ None
-quiet_call context call h g = none_at 1 rules (ACall context call)
+quiet_call context call h g = none_at rules (ACall context call)
     (refl, (refl, (refl, (refl, (refl, (refl, (h, (refl, (refl, (refl, (refl, (refl, (refl, (refl, (refl, (refl, (refl, (refl, (refl, (refl, (refl, (refl, (refl, (refl, (refl, (refl, (refl, (refl, (refl, (refl, (refl, (refl, (refl, (g, (refl, (refl, (refl, (refl, (refl, (refl, (refl, (refl, (refl, (refl, tt))))))))))))))))))))))))))))))))))))))))))))
 
 pub call_is_clean : CallIsClean

@@ -46,12 +46,13 @@ expr_row context want (Bare s e) = AnExpr context want (Bare s e) ∷ expr_row c
 -- ---- calls
 
 -- a parameter with its argument, as region matching sees them
-abbrev pub passed : Context → Option ValueType → ExprSyntax → Passed
-passed context param arg = record { wanted = option_and_then reference_of param; given = option_and_then reference_of (own_type context arg) }
+abbrev pub matched : Context → Option ValueType → ExprSyntax → Passed
+matched context param arg = record { wanted = option_and_then reference_of param; given = option_and_then reference_of (own_type context arg) }
 
-abbrev pub passed_all : Context → List (Option ValueType) → List ExprSyntax → List Passed
-passed_all context (p ∷ params) (e ∷ args) = passed context p e ∷ passed_all context params args
-passed_all context _ _ = []
+abbrev pub matched_all : Context → List (Option ValueType) → List ExprSyntax → List Passed
+matched_all context (p ∷ params) (e ∷ args) = matched context p e ∷ matched_all context params args
+matched_all context [] args = []
+matched_all context (p ∷ params) [] = []
 
 abbrev pub params_of : Option Callee → List (Option ValueType)
 params_of None = []
@@ -61,7 +62,7 @@ params_of (Some c) = c.params
 abbrev pub args_row : Context → (before : List Passed) → List (Option ValueType) → List ExprSyntax → List Node
 args_row context before params [] = []
 args_row context before [] (e ∷ args) = expr_row context Nothing e ++ args_row context before [] args
-args_row context before (p ∷ params) (e ∷ args) = expr_row context (of_argument before p) e ++ args_row context (before ++ passed context p e ∷ []) params args
+args_row context before (p ∷ params) (e ∷ args) = expr_row context (of_argument before p) e ++ args_row context (before ++ matched context p e ∷ []) params args
 
 abbrev pub call_row : Context → CallSyntax → List Node
 call_row context c = ACall context c ∷ args_row context [] (params_of (callee_named context.earlier c.name.text)) c.args
@@ -71,13 +72,16 @@ call_row context c = ACall context c ∷ args_row context [] (params_of (callee_
 -- what is wanted of the expression for an area: the cell's type
 abbrev pub of_cell : Option Area → Want
 of_cell (Some (types.Stored t)) = Wants t
-of_cell _ = Unknown
+of_cell (Some (types.Array n element)) = Unknown
+of_cell (Some (types.Struct k)) = Unknown
+of_cell None = Unknown
 
 -- the area of the element or field of that number
 abbrev pub place_in : Earlier → Option Area → ℕ → Option Area
 place_in earlier (Some (types.Array n element)) i = Some element
 place_in earlier (Some (types.Struct k)) i = option_map (λ (f : types.Field). f.area) (option_and_then (λ (s : StructType). slice_get s.fields i) (slice_get earlier.structs k))
-place_in earlier _ i = None
+place_in earlier (Some (types.Stored t)) i = None
+place_in earlier None i = None
 
 abbrev mutual
   pub init_row : Context → (global : Bool) → Option Area → InitSyntax → List Node

@@ -56,7 +56,3 @@ field_type earlier _ name = None
 abbrev pub word_type : Earlier → ValueType → Option ValueType
 word_type earlier (Bits k) = option_map (λ (i : BitsItem). Int i.word) (slice_get earlier.bits k)
 word_type earlier _ = None
-
--- the type of a name that stands for an area
-abbrev pub reference_to : (constant : Bool) → Region → Area → ValueType
-reference_to constant region area = Ref constant region area

@@ -5,8 +5,8 @@ use Rattle.std.proofs.Math.Dec.{leb}
 use Rattle.std.proofs.lemmas.Bool.{leb-true}
 use Rattle.iv_words.specs.declared.Span.{Span}
 use Rattle.rule_faults.specs.Nodes.{Node}
-use Rattle.rule_faults.specs.FirstFault.{rules, Broken, Sound, Least, First, here, later, least_broken, at_node, first_of}
-use Rattle.rule_faults.specs.Laws.{Found, Complete, Unique}
+use Rattle.rule_faults.specs.FirstFault.{rules, Broken, Sound, Least, First, AllSound, here, later, least_broken, at_node, first_of}
+use Rattle.rule_faults.specs.Laws.{Found, Complete, Unique, NoneIsFaultless, FaultlessIsNone}
 
 some_injective : {A : Type 0} {x y : A} → Some x ≡ Some y → x ≡ y
 some_injective h = cc
@@ -104,6 +104,24 @@ complete [] k s f = elim f [ ]
 complete (n ∷ ns) k s (here l) = ap (λ o. at_node n o (first_of ns)) (gives_least n k l)
 complete (n ∷ ns) k s (later f g) = ap (λ o. at_node n o (first_of ns)) (gives_none n f) ∙ complete ns k s g
 
+pub all_sound : (ns : List Node) → first_of ns ≡ None → AllSound ns
+all_sound [] e = tt
+all_sound (n ∷ ns) e = go (all_sound ns) (least_broken n) refl e
+  where
+    go : (first_of ns ≡ None → AllSound ns) → (o : Option ℕ) → least_broken n ≡ o → at_node n o (first_of ns) ≡ None → AllSound (n ∷ ns)
+    go ih None h g = (is_sound n h, ih g)
+    go ih (Some j) h g = let no : ⊥ = cc in absurd no
+
+pub none_first : (ns : List Node) → AllSound ns → first_of ns ≡ None
+none_first [] f = refl
+none_first (n ∷ ns) f = ap (λ o. at_node n o (first_of ns)) (gives_none n f.0) ∙ none_first ns f.1
+
+pub none_is_faultless : NoneIsFaultless
+none_is_faultless m e = all_sound _ e
+
+pub faultless_is_none : FaultlessIsNone
+faultless_is_none m f = none_first _ f
+
 pub found_law : Found
 found_law m k s e = found _ k s e
 
@@ -115,4 +133,4 @@ unique_law m j k s t f g =
     let e : Some (j, s) ≡ Some (k, t) = sym (complete_law m j s f) ∙ complete_law m k t g in
     (ap (λ p. p.0) (some_injective e), ap (λ p. p.1) (some_injective e))
 
-pub ruleset laws = (found_law, complete_law, unique_law)
+pub ruleset laws = (found_law, complete_law, unique_law, none_is_faultless, faultless_is_none)

@@ -153,7 +153,7 @@ abbrev pub rule_38 : Node → Bool
 rule_38 (AnExpr context (Returns wanted) e) = settled e && where_there (own_type context e) escapes
 rule_38 _ = false
 
--- a type fits a wanted reference type if region and area are equal and the given one is mutable or the wanted one const
+-- what is given stands for what is wanted: the region is the same, and so is the area, and no writing is won
 abbrev pub fits : Reference → Option Reference → Bool
 fits wanted None = false
 fits wanted (Some r) = same_region r.region wanted.region && same_area r.area wanted.area && may_stand_for r.constant wanted.constant

@@ -46,6 +46,14 @@ pub data First : List Node → ℕ → Span → Type 0 where
 abbrev pub FirstFault : ModuleSyntax → ℕ → Span → Type 0
 FirstFault m k s = First (module_row m) k s
 
+abbrev pub AllSound : List Node → Type 0
+AllSound [] = Unit {0}
+AllSound (n ∷ ns) = Sound n × AllSound ns
+
+-- no node of the module breaks a rule
+abbrev pub Faultless : ModuleSyntax → Type 0
+Faultless m = AllSound (module_row m)
+
 -- ---- the same as a function
 
 abbrev pub least_broken : Node → Option ℕ

@@ -187,7 +187,7 @@ abbrev pub rule_16 : Node → Bool
 rule_16 (AnInit earlier global (Some area) (Many s inits)) = where_there (place_count earlier area) (λ n. nat_lt n (inits_count inits))
 rule_16 _ = false
 
--- a NUM
+-- a number without a minus
 abbrev pub is_number : ExprSyntax → Bool
 is_number (Literal s value) = int_le (pos 0) value
 is_number (Truth s value) = false
@@ -206,7 +206,7 @@ is_number (Element s brackets e index) = false
 is_number (Cond s test first second) = false
 is_number (Bare s e) = false
 
--- a NUM, `-` NUM, `true`, `false` or `bits` of a NUM
+-- a number with or without its minus, a bool, or bit data with a number for its word
 abbrev pub is_first_value : ExprSyntax → Bool
 is_first_value (Literal s value) = true
 is_first_value (Truth s value) = true

@@ -1,12 +1,11 @@
 -- The types of parts: what is stored behind a reference, fields of structs and of bit data, elements of arrays.
-use Rattle.std.specs.Prelude.{ℕ, Bool, if◌then◌else◌, Option, Some, None, option_map, option_and_then, slice_get}
+use Rattle.std.specs.Prelude.{ℕ, if◌then◌else◌, Option, Some, None, option_map, option_and_then, slice_get}
 use Rattle.std.specs.List.{find, position_from}
 use Rattle.iv_words.specs.Words.{same_word}
 use Rattle.ivory_tree.specs.Syntax.{Word}
 use Rattle.ivory_tree.specs.declared.items.BitField.{BitField}
 use Rattle.ivory_tree.specs.declared.items.BitsItem.{BitsItem}
-use Rattle.area_types.specs.Syntax.{ValueType, Truth, Int, Bits, Ref, Area, Stored, Array, Struct, StructType, Field}
-use Rattle.area_types.specs.declared.region.Region.{Region}
+use Rattle.area_types.specs.Syntax.{ValueType, Truth, Int, Bits, Ref, Stored, Array, Struct, StructType, Field}
 use Rattle.source_types.specs.Environments.{Earlier}
 use Rattle.source_types.specs.Values.{least_unsigned}
 

@@ -2,7 +2,7 @@
 use Rattle.std.specs.Prelude.{ℕ, ◌+◌, Bool, List, [], ◌∷◌, ◌++◌, Option, Some, None, slice_get, option_map, option_and_then}
 use Rattle.ivory_tree.specs.Syntax.{Word, TypeSyntax, TruthType, IntType, IndexType, BitsType, RefType, AreaSyntax, StoredArea, ArrayArea, StructArea, ExprSyntax, Literal, Truth, Outcome, Variable, Cast, ToIndex, WrapIndex, MakeBits, Raw, SetField, Prefix, Binary, Field, Element, Cond, Bare, InitSyntax, One, Many, InitsSyntax, NoInits, MoreInits, CallSyntax}
 use Rattle.area_types.specs.Syntax as types
-use Rattle.area_types.specs.Syntax.{ValueType, Area, StructType, Ref}
+use Rattle.area_types.specs.Syntax.{ValueType, Area, StructType}
 use Rattle.region_check.specs.Calls.{reference_of, Passed}
 use Rattle.source_types.specs.Environments.{Earlier, Callee, callee_named}
 use Rattle.rule_faults.specs.Contexts.{Context}

@@ -11,7 +11,7 @@ use Rattle.region_check.specs.Calls.{Reference, reference_of, Passed, FitsRefere
 use Rattle.region_check.specs.Substitutions.{under}
 use Rattle.region_check.specs.Faults.{known, required, or_else, region_at, region_from}
 use Rattle.core_tree.specs.Syntax as core
-use Rattle.core_tree.specs.Syntax.{ExprCore, CallCore}
+use Rattle.core_tree.specs.Syntax.{ExprCore}
 use Rattle.source_types.specs.Settled.{settled}
 use Rattle.source_types.specs.Values.{same_region}
 use Rattle.source_types.specs.Environments.{Callee, callee_named}

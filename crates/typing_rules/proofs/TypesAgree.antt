@@ -15,7 +15,7 @@ use Rattle.core_tree.specs.Syntax.{ExprCore}
 use Rattle.source_types.specs.Operators.{is_logic, is_comparison, gives_truth, is_arithmetic}
 use Rattle.source_types.specs.Settled.{settled}
 use Rattle.rule_faults.specs.Contexts as faults
-use Rattle.rule_faults.specs.Contexts.{Context, in_scope, name_type}
+use Rattle.rule_faults.specs.Contexts.{Context}
 use Rattle.rule_faults.specs.Types.{type_of, first_type}
 use Rattle.typing_rules.specs.Environments.{Env, Local}
 use Rattle.typing_rules.specs.Contexts.{local_of, context_of}

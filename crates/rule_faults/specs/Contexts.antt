@@ -31,8 +31,12 @@ pub record Context : Type 0 where
 abbrev pub of_body : Allowed
 of_body = record { may_alloc = true; may_break = false; may_return = true }
 
+-- there is no code outside of bodies
+abbrev pub of_no_code : Allowed
+of_no_code = record { may_alloc = false; may_break = false; may_return = false }
+
 abbrev pub outside : List Word → Earlier → Context
-outside names earlier = record { earlier = earlier; names = names; regions = []; gives = false; result = None; in_ensures = false; allowed = of_body; scope = [] }
+outside names earlier = record { earlier = earlier; names = names; regions = []; gives = false; result = None; in_ensures = false; allowed = of_no_code; scope = [] }
 
 abbrev pub with_local : Context → Word → Option ValueType → Context
 with_local context name ty = record context { scope = context.scope ++ record { name = name; ty = ty } ∷ [] }

@@ -2,11 +2,11 @@
 use Rattle.std.specs.Prelude.{ℕ, ◌+◌, Bool, List, [], ◌∷◌, ◌++◌, Option, Some, None, slice_get, option_map, option_and_then}
 use Rattle.ivory_tree.specs.Syntax.{Word, TypeSyntax, TruthType, IntType, IndexType, BitsType, RefType, AreaSyntax, StoredArea, ArrayArea, StructArea, ExprSyntax, Literal, Truth, Outcome, Variable, Cast, ToIndex, WrapIndex, MakeBits, Raw, SetField, Prefix, Binary, Field, Element, Cond, Bare, InitSyntax, One, Many, InitsSyntax, NoInits, MoreInits, CallSyntax}
 use Rattle.area_types.specs.Syntax as types
-use Rattle.area_types.specs.Syntax.{ValueType, Area, StructType, Ref}
+use Rattle.area_types.specs.Syntax.{ValueType, Area, StructType}
 use Rattle.region_check.specs.Calls.{reference_of, Passed}
 use Rattle.source_types.specs.Environments.{Earlier, Callee, callee_named}
 use Rattle.rule_faults.specs.Contexts.{Context}
-use Rattle.rule_faults.specs.Types.{type_of}
+use Rattle.rule_faults.specs.Types.{own_type}
 use Rattle.rule_faults.specs.Wants.{Want, Nothing, Unknown, Wants, of_operand, of_arm, beside, of_cast, of_word, of_new_value, of_index, of_argument}
 use Rattle.rule_faults.specs.Nodes.{Use, Within, Node, AType, AnArea, AnInit, ACall, AnExpr}
 
@@ -46,21 +46,23 @@ expr_row context want (Bare s e) = AnExpr context want (Bare s e) ∷ expr_row c
 -- ---- calls
 
 -- a parameter with its argument, as region matching sees them
-abbrev pub passed : Context → Option ValueType → ExprSyntax → Passed
-passed context param arg = record { wanted = option_and_then reference_of param; given = option_and_then reference_of (type_of context param arg) }
+abbrev pub matched : Context → Option ValueType → ExprSyntax → Passed
+matched context param arg = record { wanted = option_and_then reference_of param; given = option_and_then reference_of (own_type context arg) }
 
-abbrev pub passed_all : Context → List (Option ValueType) → List ExprSyntax → List Passed
-passed_all context (p ∷ params) (e ∷ args) = passed context p e ∷ passed_all context params args
-passed_all context _ _ = []
+abbrev pub matched_all : Context → List (Option ValueType) → List ExprSyntax → List Passed
+matched_all context (p ∷ params) (e ∷ args) = matched context p e ∷ matched_all context params args
+matched_all context [] args = []
+matched_all context (p ∷ params) [] = []
 
 abbrev pub params_of : Option Callee → List (Option ValueType)
 params_of None = []
 params_of (Some c) = c.params
 
+-- of an argument without a parameter nothing is wanted
 abbrev pub args_row : Context → (before : List Passed) → List (Option ValueType) → List ExprSyntax → List Node
 args_row context before params [] = []
-args_row context before [] (e ∷ args) = expr_row context Unknown e ++ args_row context before [] args
-args_row context before (p ∷ params) (e ∷ args) = expr_row context (of_argument before p) e ++ args_row context (before ++ passed context p e ∷ []) params args
+args_row context before [] (e ∷ args) = expr_row context Nothing e ++ args_row context before [] args
+args_row context before (p ∷ params) (e ∷ args) = expr_row context (of_argument before p) e ++ args_row context (before ++ matched context p e ∷ []) params args
 
 abbrev pub call_row : Context → CallSyntax → List Node
 call_row context c = ACall context c ∷ args_row context [] (params_of (callee_named context.earlier c.name.text)) c.args
@@ -70,13 +72,16 @@ call_row context c = ACall context c ∷ args_row context [] (params_of (callee_
 -- what is wanted of the expression for an area: the cell's type
 abbrev pub of_cell : Option Area → Want
 of_cell (Some (types.Stored t)) = Wants t
-of_cell _ = Unknown
+of_cell (Some (types.Array n element)) = Unknown
+of_cell (Some (types.Struct k)) = Unknown
+of_cell None = Unknown
 
 -- the area of the element or field of that number
 abbrev pub place_in : Earlier → Option Area → ℕ → Option Area
 place_in earlier (Some (types.Array n element)) i = Some element
 place_in earlier (Some (types.Struct k)) i = option_map (λ (f : types.Field). f.area) (option_and_then (λ (s : StructType). slice_get s.fields i) (slice_get earlier.structs k))
-place_in earlier _ i = None
+place_in earlier (Some (types.Stored t)) i = None
+place_in earlier None i = None
 
 abbrev mutual
   pub init_row : Context → (global : Bool) → Option Area → InitSyntax → List Node

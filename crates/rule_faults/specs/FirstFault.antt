@@ -1,6 +1,6 @@
 -- The first fault of a module: the first node in the order of the text that breaks a rule, and the least rule that is broken there.
-use Rattle.std.specs.Prelude.{◌≡◌, ℕ, ◌+◌, ◌<◌, Bool, true, ◌||◌, ◌&&◌, nat_lt, nat_le, nat_eq, List, [], ◌∷◌, ◌⊎◌, Option, Some, None, IsTrue}
-use Rattle.std.specs.List.{list_all, position_from}
+use Rattle.std.specs.Prelude.{◌≡◌, ℕ, ◌<◌, Bool, true, ◌||◌, ◌&&◌, nat_lt, nat_le, nat_eq, List, [], ◌∷◌, ◌⊎◌, Option, Some, None, option_map, IsTrue}
+use Rattle.std.specs.List.{list_all, find}
 use Rattle.iv_words.specs.declared.Span.{Span}
 use Rattle.ivory_tree.specs.Syntax.{ModuleSyntax}
 use Rattle.rule_faults.specs.Nodes.{Node, span_of}
@@ -9,21 +9,26 @@ use Rattle.rule_faults.specs.ItemRules.{rule_1, rule_2, rule_3, rule_8, rule_9, 
 use Rattle.rule_faults.specs.ExpressionRules.{rule_4, rule_5, rule_6, rule_7, rule_18, rule_19, rule_20, rule_21, rule_22, rule_23, rule_24, rule_25, rule_26, rule_27, rule_28, rule_29, rule_30, rule_35, rule_36, rule_37, rule_38, rule_39}
 use Rattle.rule_faults.specs.StatementRules.{rule_31, rule_32, rule_33, rule_34, rule_40, rule_41, rule_42, rule_43, rule_44}
 
--- the rules by number, from 1
-abbrev pub rules : List (Node → Bool)
+-- the rules with their numbers
+abbrev pub rules : List (ℕ × (Node → Bool))
 rules =
-    rule_1 ∷ rule_2 ∷ rule_3 ∷ rule_4 ∷ rule_5 ∷ rule_6 ∷ rule_7 ∷ rule_8 ∷ rule_9 ∷ rule_10 ∷ rule_11 ∷ rule_12 ∷ rule_13 ∷ rule_14 ∷ rule_15 ∷ rule_16
-    ∷ rule_17 ∷ rule_18 ∷ rule_19 ∷ rule_20 ∷ rule_21 ∷ rule_22 ∷ rule_23 ∷ rule_24 ∷ rule_25 ∷ rule_26 ∷ rule_27 ∷ rule_28 ∷ rule_29 ∷ rule_30
-    ∷ rule_31 ∷ rule_32 ∷ rule_33 ∷ rule_34 ∷ rule_35 ∷ rule_36 ∷ rule_37 ∷ rule_38 ∷ rule_39 ∷ rule_40 ∷ rule_41 ∷ rule_42 ∷ rule_43 ∷ rule_44 ∷ []
+    (1, rule_1) ∷ (2, rule_2) ∷ (3, rule_3) ∷ (4, rule_4) ∷ (5, rule_5) ∷ (6, rule_6)
+    ∷ (7, rule_7) ∷ (8, rule_8) ∷ (9, rule_9) ∷ (10, rule_10) ∷ (11, rule_11) ∷ (12, rule_12)
+    ∷ (13, rule_13) ∷ (14, rule_14) ∷ (15, rule_15) ∷ (16, rule_16) ∷ (17, rule_17) ∷ (18, rule_18)
+    ∷ (19, rule_19) ∷ (20, rule_20) ∷ (21, rule_21) ∷ (22, rule_22) ∷ (23, rule_23) ∷ (24, rule_24)
+    ∷ (25, rule_25) ∷ (26, rule_26) ∷ (27, rule_27) ∷ (28, rule_28) ∷ (29, rule_29) ∷ (30, rule_30)
+    ∷ (31, rule_31) ∷ (32, rule_32) ∷ (33, rule_33) ∷ (34, rule_34) ∷ (35, rule_35) ∷ (36, rule_36)
+    ∷ (37, rule_37) ∷ (38, rule_38) ∷ (39, rule_39) ∷ (40, rule_40) ∷ (41, rule_41) ∷ (42, rule_42)
+    ∷ (43, rule_43) ∷ (44, rule_44) ∷ []
 
--- a rule of these, which are numbered from i on, has the number k and is broken at the node
-abbrev pub Broken : (i : ℕ) → List (Node → Bool) → (k : ℕ) → Node → Type 0
-Broken i [] k n = ⊥
-Broken i (rule ∷ more) k n = ((k ≡ i) × IsTrue (rule n)) ⊎ Broken (i + 1) more k n
+-- a rule of these has the number k and is broken at the node
+abbrev pub Broken : List (ℕ × (Node → Bool)) → (k : ℕ) → Node → Type 0
+Broken [] k n = ⊥
+Broken (rule ∷ more) k n = ((k ≡ rule.0) × IsTrue (rule.1 n)) ⊎ Broken more k n
 
 -- the node breaks rule k
 abbrev pub Breaks : ℕ → Node → Type 0
-Breaks k n = Broken 1 rules k n
+Breaks k n = Broken rules k n
 
 -- it breaks none
 abbrev pub Sound : Node → Type 0
@@ -41,10 +46,18 @@ pub data First : List Node → ℕ → Span → Type 0 where
 abbrev pub FirstFault : ModuleSyntax → ℕ → Span → Type 0
 FirstFault m k s = First (module_row m) k s
 
+abbrev pub AllSound : List Node → Type 0
+AllSound [] = Unit {0}
+AllSound (n ∷ ns) = Sound n × AllSound ns
+
+-- no node of the module breaks a rule
+abbrev pub Faultless : ModuleSyntax → Type 0
+Faultless m = AllSound (module_row m)
+
 -- ---- the same as a function
 
 abbrev pub least_broken : Node → Option ℕ
-least_broken n = position_from (λ rule. rule n) 1 rules
+least_broken n = option_map (λ rule. rule.0) (find (λ rule. rule.1 n) rules)
 
 abbrev pub at_node : Node → Option ℕ → Option (ℕ × Span) → Option (ℕ × Span)
 at_node n None rest = rest

@@ -1,12 +1,12 @@
 -- The nodes of items and of a module. A header is no node of its own.
-use Rattle.std.specs.Prelude.{Bool, true, false, not, List, [], ◌∷◌, ◌++◌, Option, Some, None}
+use Rattle.std.specs.Prelude.{Bool, true, false, not, List, [], ◌∷◌, ◌++◌, Option, Some, None, option_and_then}
 use Rattle.ivory_tree.specs.Syntax.{Word, TypeSyntax, FieldSyntax, ParamSyntax, HeaderSyntax, ContractSyntax, ProcSyntax, ItemSyntax, BitsData, Struct, Global, Import, Procedure, InitSyntax, ModuleSyntax}
 use Rattle.ivory_tree.specs.declared.items.BitField.{BitField}
 use Rattle.area_types.specs.Syntax as types
 use Rattle.source_types.specs.Environments.{Earlier, nothing_earlier}
-use Rattle.source_types.specs.Written.{type_in, area_in, regions_of, callee_in}
+use Rattle.source_types.specs.Written.{type_in, area_in, regions_of, has_result}
 use Rattle.source_types.specs.Items.{after, item_names}
-use Rattle.rule_faults.specs.Contexts.{Context, outside, with_local}
+use Rattle.rule_faults.specs.Contexts.{Context, of_body, outside, with_local}
 use Rattle.rule_faults.specs.Wants.{Wants}
 use Rattle.rule_faults.specs.Nodes.{Boundary, Exported, Imported, Inner, ForParam, ForResult, Node, AnItem, ABitField, AField, AParam, AContract}
 use Rattle.rule_faults.specs.ExpressionRows.{type_row, area_row, expr_row, init_row}
@@ -32,7 +32,7 @@ result_row context boundary (Some t) = type_row context.earlier context.regions 
 
 -- what is known of the procedure at its first parameter
 abbrev pub at_header : Context → HeaderSyntax → Context
-at_header context h = record context { regions = regions_of h.params; gives = (callee_in context.earlier false h).gives; result = (callee_in context.earlier false h).result }
+at_header context h = record context { regions = regions_of h.params; gives = has_result h.result; result = option_and_then (type_in context.earlier (regions_of h.params)) h.result }
 
 abbrev pub header_row : Context → Boundary → HeaderSyntax → List Node
 header_row context boundary h = params_row (at_header context h) boundary h.params ++ result_row (at_header context h) boundary h.result
@@ -55,7 +55,7 @@ init_rows context area None = []
 init_rows context area (Some init) = init_row context true area init
 
 abbrev pub body_row : Context → ProcSyntax → List Node
-body_row context p = contracts_row context p.contracts ++ block_row context context.gives p.body
+body_row context p = contracts_row context p.contracts ++ block_row (record context { allowed = of_body }) context.gives p.body
 
 abbrev pub proc_row : Context → ProcSyntax → List Node
 proc_row context p = header_row context (boundary_of p.exported) p.header ++ body_row (with_params (at_header context p.header) p.header.params) p

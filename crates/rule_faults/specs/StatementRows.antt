@@ -1,5 +1,5 @@
 -- The nodes of statements and blocks. What a `let` or an `alloc` names is in scope from there to the end of its block.
-use Rattle.std.specs.Prelude.{ℕ, Bool, true, false, ◌&&◌, List, [], ◌∷◌, ◌++◌, Option, Some, None, option_map, option_and_then, unwrap_or}
+use Rattle.std.specs.Prelude.{ℕ, Bool, true, false, ◌&&◌, List, [], ◌∷◌, ◌++◌, Option, Some, None, option_map, option_and_then, unwrap_or, if◌then◌else◌}
 use Rattle.iv_words.specs.declared.Name.{Name}
 use Rattle.ivory_tree.specs.Syntax.{ExprSyntax, InitSyntax, CallSyntax, StmtSyntax, Let, LetCall, Alloc, Store, Copy, Call, If, IfElse, Map, Upto, Downto, Forever, Break, Return, Assert, NoAlloc, NoBreak, NoReturn, BlockSyntax, Braces, StmtsSyntax, NoStmts, MoreStmts}
 use Rattle.area_types.specs.Syntax as types
@@ -15,13 +15,13 @@ use Rattle.source_types.specs.Environments.{Callee, callee_named}
 use Rattle.source_types.specs.Written.{index_type, area_in}
 use Rattle.rule_faults.specs.Contexts.{Context, with_local, own_area}
 use Rattle.rule_faults.specs.Types.{own_type}
-use Rattle.rule_faults.specs.Wants.{Nothing, Wants, wants, of_stored, of_returned}
+use Rattle.rule_faults.specs.Wants.{Want, Nothing, Wants, wants, of_stored, of_returned}
 use Rattle.rule_faults.specs.Nodes.{Node, AStatement, ABlock}
-use Rattle.rule_faults.specs.ExpressionRows.{area_row, expr_row, passed_all, call_row, init_row}
+use Rattle.rule_faults.specs.ExpressionRows.{area_row, expr_row, matched_all, call_row, init_row}
 
 -- the result of a call, its regions as the arguments give them
 abbrev pub result_for : Context → CallSyntax → Callee → Option ValueType
-result_for context call c = option_map (applied (λ j. unwrap_or (known (passed_all context c.params call.args) j) Global)) c.result
+result_for context call c = option_map (applied (λ j. unwrap_or (known (matched_all context c.params call.args) j) Global)) c.result
 
 abbrev pub call_type : Context → CallSyntax → Option ValueType
 call_type context call = option_and_then (result_for context call) (callee_named context.earlier call.name.text)
@@ -31,8 +31,21 @@ abbrev pub after_stmt : Context → StmtSyntax → Context
 after_stmt context (Let s name value) = with_local context name.text (own_type context value)
 after_stmt context (LetCall s name call) = with_local context name.text (call_type context call)
 after_stmt context (Alloc s name area init) = with_local context name.text (own_area (area_in context.earlier area))
+after_stmt context (Store s target value) = context
+after_stmt context (Copy s target source) = context
+after_stmt context (Call s call) = context
+after_stmt context (If s test first) = context
 after_stmt context (IfElse s test first second) = context
-after_stmt context _ = context
+after_stmt context (Map s name n body) = context
+after_stmt context (Upto s name n bound body) = context
+after_stmt context (Downto s name n bound body) = context
+after_stmt context (Forever s body) = context
+after_stmt context (Break s) = context
+after_stmt context (Return s value) = context
+after_stmt context (Assert s cond) = context
+after_stmt context (NoAlloc s body) = context
+after_stmt context (NoBreak s body) = context
+after_stmt context (NoReturn s body) = context
 
 -- in the body of a loop: it may break, and the loop's name is an index
 abbrev pub in_loop : Context → Context
@@ -48,9 +61,13 @@ abbrev pub alloc_row : Context → Option Area → Option InitSyntax → List No
 alloc_row context area None = []
 alloc_row context area (Some init) = init_row context false area init
 
+-- of the value of `return`: the result type; in a procedure without result nothing
+abbrev pub of_value : Context → Want
+of_value context = if context.gives then of_returned context.result else Nothing
+
 abbrev pub value_row : Context → Option ExprSyntax → List Node
 value_row context None = []
-value_row context (Some e) = expr_row context (of_returned context.result) e
+value_row context (Some e) = expr_row context (of_value context) e
 
 abbrev mutual
   -- `reached` says whether each statement before it in its block falls through

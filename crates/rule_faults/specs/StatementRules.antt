@@ -1,4 +1,5 @@
--- Rules 31 to 34 and 40 to 44: stores and copies, calls, what is allowed, and paths.
+-- Rules 31 to 34 and 40 to 44: stores and copies, calls, what is allowed, and paths. Each is told in words, and is
+-- true of the nodes at which it is broken.
 use Rattle.std.specs.Prelude.{Bool, false, ◌&&◌, not, nat_eq, length, Option, Some, None}
 use Rattle.ivory_tree.specs.Syntax.{LetCall, Alloc, Store, Copy, Break, Return}
 use Rattle.region_check.specs.Calls.{Reference, reference_of}
@@ -13,7 +14,7 @@ abbrev pub only_reads : Option Reference → Bool
 only_reads None = false
 only_reads (Some r) = r.constant
 
--- 31 | store, copy | the target is a const reference
+-- rule 31: nothing is written through a const reference
 abbrev pub rule_31 : Node → Bool
 rule_31 (AStatement context reached (Store s target value)) = where_there (own_type context target) (λ t. only_reads (reference_of t))
 rule_31 (AStatement context reached (Copy s target source)) = where_there (own_type context target) (λ t. only_reads (reference_of t))
@@ -24,43 +25,43 @@ abbrev pub alike : Option Reference → Option Reference → Bool
 alike (Some p) (Some q) = same_area p.area q.area
 alike _ _ = false
 
--- 32 | copy | not two references to equal areas
+-- rule 32: areas of the same type are copied, from reference to reference
 abbrev pub rule_32 : Node → Bool
 rule_32 (AStatement context reached (Copy s target source)) = where_both (own_type context target) (own_type context source) (λ t u. not (alike (reference_of t) (reference_of u)))
 rule_32 _ = false
 
--- 33 | let | the called one has no result
+-- rule 33: a `let` names the result of a call, so there is one
 abbrev pub rule_33 : Node → Bool
 rule_33 (AStatement context reached (LetCall s name call)) = where_there (callee_named context.earlier call.name.text) (λ c. not c.gives)
 rule_33 _ = false
 
--- 34 | call | another number of arguments
+-- rule 34: there are as many arguments as parameters
 abbrev pub rule_34 : Node → Bool
 rule_34 (ACall context call) = where_there (callee_named context.earlier call.name.text) (λ c. not (nat_eq (length c.params) (length call.args)))
 rule_34 _ = false
 
--- 40 | return | a value in a procedure without result, or none in one with
+-- rule 40: a value is returned if and only if the procedure has a result
 abbrev pub rule_40 : Node → Bool
 rule_40 (AStatement context reached (Return s None)) = context.gives
 rule_40 (AStatement context reached (Return s (Some value))) = not context.gives
 rule_40 _ = false
 
--- 41 | return | not allowed here
+-- rule 41: a `return` stands where returning is allowed
 abbrev pub rule_41 : Node → Bool
 rule_41 (AStatement context reached (Return s value)) = not context.allowed.may_return
 rule_41 _ = false
 
--- 42 | break | not allowed here
+-- rule 42: a `break` stands in a loop that it may leave
 abbrev pub rule_42 : Node → Bool
 rule_42 (AStatement context reached (Break s)) = not context.allowed.may_break
 rule_42 _ = false
 
--- 43 | alloc | not allowed here
+-- rule 43: an `alloc` stands where allocating is allowed
 abbrev pub rule_43 : Node → Bool
 rule_43 (AStatement context reached (Alloc s name area init)) = not context.allowed.may_alloc
 rule_43 _ = false
 
--- 44 | block, statement | the body of a procedure with a result falls through; the statement is unreached
+-- rule 44: each statement is reached, and no path through the body of a procedure with a result ends without `return`
 abbrev pub rule_44 : Node → Bool
 rule_44 (ABlock with_result body) = with_result && block_falls body
 rule_44 (AStatement context reached s) = not reached

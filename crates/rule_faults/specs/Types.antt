@@ -2,8 +2,7 @@
 -- type of an operand that it needs is missing.
 use Rattle.std.specs.Prelude.{Bool, ◌||◌, not, if◌then◌else◌, Option, Some, None, option_and_then}
 use Rattle.ivory_tree.specs.Syntax.{ExprSyntax, Literal, Truth, Outcome, Variable, Cast, ToIndex, WrapIndex, MakeBits, Raw, SetField, Prefix, Binary, Field, Element, Cond, Bare}
-use Rattle.ivory_tree.specs.declared.expr.PrefixOp.{PrefixOp}
-use Rattle.ivory_tree.specs.declared.expr.PrefixOp.TheVariants.{Not, Deref}
+use Rattle.ivory_tree.specs.declared.expr.PrefixOp.TheVariants.{Neg, Not, Flip, Deref}
 use Rattle.area_types.specs.Syntax as types
 use Rattle.area_types.specs.Syntax.{ValueType}
 use Rattle.source_types.specs.Values.{holds, is_bit_data}
@@ -17,12 +16,6 @@ use Rattle.rule_faults.specs.Contexts.{Context, name_type, outcome_type}
 abbrev pub only : {A : Type 0} → (A → Bool) → Option A → Option A
 only test None = None
 only test (Some x) = if test x then Some x else None
-
--- a prefix: `!` gives a bool, `*` what is stored, `-` and `~` the type of their operand
-abbrev pub prefix_type : PrefixOp → (operand settled_operand : Option ValueType) → Option ValueType
-prefix_type Not operand settled_operand = Some types.Truth
-prefix_type Deref operand settled_operand = option_and_then stored_type settled_operand
-prefix_type _ operand settled_operand = operand
 
 -- the type of the first settled operand or arm; with none settled, that of the first
 abbrev pub first_type : (left right : ExprSyntax) → (of_left of_right : Option ValueType) → Option ValueType
@@ -40,7 +33,10 @@ type_of context wanted (WrapIndex s n e) = index_type n
 type_of context wanted (MakeBits s name e) = bits_type context.earlier name
 type_of context wanted (Raw s e) = option_and_then (word_type context.earlier) (type_of context None e)
 type_of context wanted (SetField s e field value) = only is_bit_data (type_of context None e)
-type_of context wanted (Prefix s op e) = prefix_type op (type_of context wanted e) (type_of context None e)
+type_of context wanted (Prefix s Not e) = Some types.Truth
+type_of context wanted (Prefix s Deref e) = option_and_then stored_type (type_of context None e)
+type_of context wanted (Prefix s Neg e) = type_of context wanted e
+type_of context wanted (Prefix s Flip e) = type_of context wanted e
 type_of context wanted (Binary s op at left right) = if gives_truth op then Some types.Truth else first_type left right (type_of context wanted left) (type_of context wanted right)
 type_of context wanted (Field s e field) = option_and_then (λ t. field_type context.earlier t field.text) (type_of context None e)
 type_of context wanted (Element s brackets e index) = option_and_then element_type (type_of context None e)

@@ -4,7 +4,7 @@ use Rattle.iv_words.specs.declared.IntKind.{IntKind}
 use Rattle.ivory_tree.specs.Syntax.{Word, ExprSyntax}
 use Rattle.ivory_tree.specs.declared.expr.BinOp.{BinOp}
 use Rattle.ivory_tree.specs.declared.expr.PrefixOp.{PrefixOp}
-use Rattle.ivory_tree.specs.declared.expr.PrefixOp.TheVariants.{Not, Deref}
+use Rattle.ivory_tree.specs.declared.expr.PrefixOp.TheVariants.{Neg, Not, Flip, Deref}
 use Rattle.area_types.specs.Syntax.{ValueType, Truth, Int, Ix, Ref}
 use Rattle.area_types.specs.declared.region.Region.{Region}
 use Rattle.region_check.specs.Calls.{Reference, Passed}
@@ -20,7 +20,8 @@ use Rattle.rule_faults.specs.Types.{own_type, only}
 pub data Want : Type 0 where
   -- nothing is wanted
   Nothing : Want
-  -- a type that does not exist, or that of the unsettled expression around it, of which nothing is wanted
+  -- Some type is wanted, and none is known. Either what is wanted names a type that does not exist, and that place is at fault. Or it is
+  -- part of an unsettled expression of which nothing is wanted, and the whole is at fault.
   Unknown : Want
   Wants : ValueType → Want
   -- an argument for a reference parameter, and the region that the arguments before it require
@@ -51,7 +52,8 @@ part want = want
 abbrev pub of_operand : PrefixOp → Want → ExprSyntax → Want
 of_operand Not want e = Wants Truth
 of_operand Deref want e = Nothing
-of_operand _ want e = if settled e then Nothing else part want
+of_operand Neg want e = if settled e then Nothing else part want
+of_operand Flip want e = if settled e then Nothing else part want
 
 -- of an unsettled arm or operand: the type of a settled one beside it, else what the whole is wanted as
 abbrev pub of_arm : Context → Want → (arm other : ExprSyntax) → Want

@@ -1,14 +1,16 @@
 //! What the definition of the first fault says, and of small modules which fault it gives.
 
-ghost use Rattle.rule_faults.specs.Laws.{Found, Complete, Unique};
+ghost use Rattle.rule_faults.specs.Laws.{Found, Complete, Unique, NoneIsFaultless, FaultlessIsNone};
 ghost use Rattle.rule_faults.specs.Examples as example;
 
-/// A module has at most one first fault, and a search finds it.
+/// A module has at most one first fault, and a search finds it; where it finds none, no node breaks a rule.
 #[tactic(auto, using(crate::proofs::Found::laws))]
 pub fn first_fault_laws()
     ensures found { Found }
     ensures complete { Complete }
     ensures unique { Unique }
+    ensures sound { NoneIsFaultless }
+    ensures none { FaultlessIsNone }
 {}
 
 /// References stay in their regions.

@@ -17,4 +17,5 @@ item_names [] = []
 item_names (Global i ∷ items) = i.name.text ∷ item_names items
 item_names (Import h ∷ items) = h.name.text ∷ item_names items
 item_names (Procedure p ∷ items) = p.header.name.text ∷ item_names items
-item_names (_ ∷ items) = item_names items
+item_names (BitsData i ∷ items) = item_names items
+item_names (Struct i ∷ items) = item_names items

@@ -26,6 +26,8 @@ is_comparison _ = false
 abbrev pub gives_truth : BinOp → Bool
 gives_truth op = is_logic op || is_comparison op
 
+-- Which types an operator is for. A bool is wanted of what stands beside `&&` and `||`, so rule 22 needs no rows for these two; they are here so
+-- that each operator has one.
 abbrev pub is_for : BinOp → ValueType → Bool
 is_for OrElse t = is_truth t
 is_for AndAlso t = is_truth t
@@ -55,6 +57,7 @@ is_arithmetic Neg = true
 is_arithmetic Flip = true
 is_arithmetic _ = false
 
+-- The same for a prefix. Rule 22 asks for `-` and `~` alone: a bool is wanted after `!`, and `*` is for references, which is rule 23.
 abbrev pub prefix_is_for : PrefixOp → ValueType → Bool
 prefix_is_for Neg t = is_signed_integer t
 prefix_is_for Flip t = is_unsigned_integer t

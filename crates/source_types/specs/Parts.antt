@@ -1,12 +1,11 @@
 -- The types of parts: what is stored behind a reference, fields of structs and of bit data, elements of arrays.
-use Rattle.std.specs.Prelude.{ℕ, Bool, if◌then◌else◌, Option, Some, None, option_map, option_and_then, slice_get}
+use Rattle.std.specs.Prelude.{ℕ, if◌then◌else◌, Option, Some, None, option_map, option_and_then, slice_get}
 use Rattle.std.specs.List.{find, position_from}
 use Rattle.iv_words.specs.Words.{same_word}
 use Rattle.ivory_tree.specs.Syntax.{Word}
 use Rattle.ivory_tree.specs.declared.items.BitField.{BitField}
 use Rattle.ivory_tree.specs.declared.items.BitsItem.{BitsItem}
-use Rattle.area_types.specs.Syntax.{ValueType, Truth, Int, Bits, Ref, Area, Stored, Array, Struct, StructType, Field}
-use Rattle.area_types.specs.declared.region.Region.{Region}
+use Rattle.area_types.specs.Syntax.{ValueType, Truth, Int, Bits, Ref, Stored, Array, Struct, StructType, Field}
 use Rattle.source_types.specs.Environments.{Earlier}
 use Rattle.source_types.specs.Values.{least_unsigned}
 
@@ -56,7 +55,3 @@ field_type earlier _ name = None
 abbrev pub word_type : Earlier → ValueType → Option ValueType
 word_type earlier (Bits k) = option_map (λ (i : BitsItem). Int i.word) (slice_get earlier.bits k)
 word_type earlier _ = None
-
--- the type of a name that stands for an area
-abbrev pub reference_to : (constant : Bool) → Region → Area → ValueType
-reference_to constant region area = Ref constant region area

@@ -11,7 +11,7 @@ use Rattle.region_check.specs.Calls.{Reference, reference_of, Passed, FitsRefere
 use Rattle.region_check.specs.Substitutions.{under}
 use Rattle.region_check.specs.Faults.{known, required, or_else, region_at, region_from}
 use Rattle.core_tree.specs.Syntax as core
-use Rattle.core_tree.specs.Syntax.{ExprCore, CallCore}
+use Rattle.core_tree.specs.Syntax.{ExprCore}
 use Rattle.source_types.specs.Settled.{settled}
 use Rattle.source_types.specs.Values.{same_region}
 use Rattle.source_types.specs.Environments.{Callee, callee_named}
@@ -19,7 +19,7 @@ use Rattle.rule_faults.specs.Contexts.{Context}
 use Rattle.rule_faults.specs.Types.{own_type}
 use Rattle.rule_faults.specs.Wants.{Takes, Wants, of_argument}
 use Rattle.rule_faults.specs.Nodes.{ACall, AnExpr}
-use Rattle.rule_faults.specs.ExpressionRows.{expr_row, passed, args_row, params_of}
+use Rattle.rule_faults.specs.ExpressionRows.{expr_row, matched, args_row, params_of}
 use Rattle.rule_faults.specs.ExpressionRules.{rule_7}
 use Rattle.rule_faults.specs.StatementRules.{rule_34}
 use Rattle.rule_faults.specs.Tests.{where_both}
@@ -84,8 +84,8 @@ takes : (context : Context) (e : ExprSyntax) (regions : ℕ → Region) (before 
 takes context e regions before t wanted given s o r f a = record {
   r18 = refl;
   r20 = refl;
-  r35 = rw (o, r) (no_clash (required (known before) wanted.region) (under regions wanted.region) (λ first h. required_fits regions before wanted.region first a h) given f.region);
-  r36 = rw (o, r) (access_both given.constant wanted.constant f.access);
+  r35 = rw (s, o, r) (no_clash (required (known before) wanted.region) (under regions wanted.region) (λ first h. required_fits regions before wanted.region first a h) given f.region);
+  r36 = rw (s, o, r) (access_both given.constant wanted.constant f.access);
   r37 = rw (s, o, r, f.area, area_same wanted.area) refl;
   r38 = refl;
   r39 = refl;
@@ -109,14 +109,14 @@ clean_args : {env : Env} {regions : ℕ → Region} {params : List (Option Value
     → first_of (args_row (context_of env) before params args) ≡ None
 clean_args before no_args a = refl
 clean_args {env = env} {regions = regions} before (value_arg {t = t} {params = params} {e = e} {args = args} n u fit) a =
-    quiet_append (expr_row (context_of env) (of_argument before (Some t)) e) (args_row (context_of env) (before ++ passed (context_of env) (Some t) e ∷ []) params args)
+    quiet_append (expr_row (context_of env) (of_argument before (Some t)) e) (args_row (context_of env) (before ++ matched (context_of env) (Some t) e ∷ []) params args)
     (ap (λ w. first_of (expr_row (context_of env) w e)) (wants_of before t n) ∙ (clean_under u).wanted)
-    (clean_args (before ++ passed (context_of env) (Some t) e ∷ []) fit (all_fit_more regions before (passed (context_of env) (Some t) e) a (rw n tt)))
+    (clean_args (before ++ matched (context_of env) (Some t) e ∷ []) fit (all_fit_more regions before (matched (context_of env) (Some t) e) a (rw n tt)))
 clean_args {env = env} {regions = regions} before (reference_arg {t = t} {wanted = wanted} {given = given} {params = params} {e = e} {args = args} {c = c} r h g f fit) a =
-    quiet_append (expr_row (context_of env) (of_argument before (Some t)) e) (args_row (context_of env) (before ++ passed (context_of env) (Some t) e ∷ []) params args)
+    quiet_append (expr_row (context_of env) (of_argument before (Some t)) e) (args_row (context_of env) (before ++ matched (context_of env) (Some t) e ∷ []) params args)
     (ap (λ w. first_of (expr_row (context_of env) w e)) (takes_of before t wanted r)
     ∙ clean h (Takes (required (known before) wanted.region) wanted) (takes (context_of env) e regions before (core.type_of c) wanted given (has_settled h) (typed h None) g f a))
-    (clean_args (before ++ passed (context_of env) (Some t) e ∷ []) fit (all_fit_more regions before (passed (context_of env) (Some t) e) a (rw (r, typed h (Some t), g) f)))
+    (clean_args (before ++ matched (context_of env) (Some t) e ∷ []) fit (all_fit_more regions before (matched (context_of env) (Some t) e) a (rw (r, typed h None, g) f)))
 
 same_length : {env : Env} {regions : ℕ → Region} {params : List (Option ValueType)} {args : List ExprSyntax} {cs : List ExprCore} → Fit env regions params args cs → length params ≡ length args
 same_length no_args = refl
@@ -135,7 +135,7 @@ callee_there name (x ∷ callees) c h = go (callee_there name callees c) (same_w
     go ih false e g = rw (e, ih g) refl
 
 quiet_call : (context : Context) (call : CallSyntax) → rule_7 (ACall context call) ≡ false → rule_34 (ACall context call) ≡ false → least_broken (ACall context call) ≡ None
-quiet_call context call h g = none_at 1 rules (ACall context call)
+quiet_call context call h g = none_at rules (ACall context call)
     (refl, (refl, (refl, (refl, (refl, (refl, (h, (refl, (refl, (refl, (refl, (refl, (refl, (refl, (refl, (refl, (refl, (refl, (refl, (refl, (refl, (refl, (refl, (refl, (refl, (refl, (refl, (refl, (refl, (refl, (refl, (refl, (refl, (g, (refl, (refl, (refl, (refl, (refl, (refl, (refl, (refl, (refl, (refl, tt))))))))))))))))))))))))))))))))))))))))))))
 
 pub call_is_clean : CallIsClean

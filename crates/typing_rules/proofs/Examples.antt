@@ -1,9 +1,7 @@
 -- The small module stands for its core, and what is not well typed has no case.
 use Rattle.std.proofs.Common.{◌≡◌, pos, [], ◌∷◌, Some, refl, sym, ◌∙◌, ap}
 use Rattle.ivory_tree.specs.Syntax as syntax
-use Rattle.ivory_tree.specs.Syntax.{ExprSyntax, CallSyntax, StmtSyntax, StmtsSyntax}
 use Rattle.area_types.specs.Syntax.{Int}
-use Rattle.core_tree.specs.Syntax.{ExprCore, CallCore, StmtCore, StmtsCore, type_of}
 use Rattle.area_types.specs.declared.region.Region.TheVariants.{Param, Own}
 use Rattle.region_check.specs.Calls.{reference_of}
 use Rattle.iv_words.specs.declared.IntKind.TheVariants.{U8}
@@ -16,12 +14,10 @@ use Rattle.typing_rules.specs.Items.{with_params}
 use Rattle.typing_rules.specs.WellTyped.{at_header}
 use Rattle.typing_rules.specs.Environments.{Env}
 use Rattle.typing_rules.specs.Expressions as rule
-use Rattle.typing_rules.specs.Expressions.{Has, Under}
+use Rattle.typing_rules.specs.Expressions.{Has}
 use Rattle.typing_rules.specs.Statements as stands
-use Rattle.typing_rules.specs.Statements.{Returns, StandsStmt, StandAll, StandsBlock}
 use Rattle.typing_rules.specs.Items as item
 use Rattle.typing_rules.specs.WellTyped as module_rule
-use Rattle.typing_rules.specs.WellTyped.{Stands}
 use Rattle.typing_rules.specs.Examples.{added, added_header, added_proc, sum, sum_label, sum_core, AddedStands, LiteralsWantTypes, LiteralsFit, OwnStays, BreaksAreAllowed, ReturnsEnd, CallsGoBack}
 
 some_injective : {A : Type 0} {x y : A} → Some x ≡ Some y → x ≡ y

@@ -10,7 +10,6 @@ use Rattle.source_types.specs.Items.{after, item_names}
 use Rattle.typing_rules.specs.Environments.{Env, with_local, after_block}
 use Rattle.typing_rules.specs.Expressions as rule
 use Rattle.typing_rules.specs.Calls as calls
-use Rattle.typing_rules.specs.Calls.{Calls}
 use Rattle.typing_rules.specs.Initializers as fills
 use Rattle.typing_rules.specs.Statements as stands
 use Rattle.typing_rules.specs.Items as item

@@ -1,6 +1,6 @@
 -- When an expression breaks no rule: none of those that look at what is wanted of it, and none of those that look at its form.
-use Rattle.std.proofs.Common.{◌≡◌, ℕ, ◌+◌, List, [], ◌∷◌, ◌++◌, Option, Some, None, Bool, true, false, not, ◌&&◌, refl, ◌∙◌, ap, nat_eq, eq-eqb}
-use Rattle.std.specs.List.{position_from}
+use Rattle.std.proofs.Common.{◌≡◌, ℕ, List, [], ◌∷◌, ◌++◌, Option, Some, None, option_map, Bool, true, false, not, ◌&&◌, refl, ◌∙◌, ap, nat_eq, eq-eqb}
+use Rattle.std.specs.List.{find}
 use Rattle.ivory_tree.specs.Syntax.{ExprSyntax}
 use Rattle.iv_words.specs.declared.IntKind.{IntKind}
 use Rattle.iv_words.specs.Kinds.{width, is_signed}
@@ -20,13 +20,13 @@ use Rattle.rule_faults.specs.FirstFault.{rules, least_broken, first_of, at_node}
 
 -- ---- rows
 
-abbrev pub AllFalse : List (Node → Bool) → Node → Type 0
+abbrev pub AllFalse : List (ℕ × (Node → Bool)) → Node → Type 0
 AllFalse [] n = Unit {0}
-AllFalse (r ∷ rs) n = (r n ≡ false) × AllFalse rs n
+AllFalse (r ∷ rs) n = (r.1 n ≡ false) × AllFalse rs n
 
-pub none_at : (i : ℕ) (rs : List (Node → Bool)) (n : Node) → AllFalse rs n → position_from (λ rule. rule n) i rs ≡ None
-none_at i [] n h = refl
-none_at i (r ∷ rs) n h = rw h.0 (none_at (i + 1) rs n h.1)
+pub none_at : (rs : List (ℕ × (Node → Bool))) (n : Node) → AllFalse rs n → option_map (λ (rule : ℕ × (Node → Bool)). rule.0) (find (λ (rule : ℕ × (Node → Bool)). rule.1 n) rs) ≡ None
+none_at [] n h = refl
+none_at (r ∷ rs) n h = rw h.0 (none_at rs n h.1)
 
 pub quiet_cons : (n : Node) (ns : List Node) → least_broken n ≡ None → first_of ns ≡ None → first_of (n ∷ ns) ≡ None
 quiet_cons n ns h g = ap (λ o. at_node n o (first_of ns)) h ∙ g
@@ -59,7 +59,7 @@ InForm n =
 
 pub quiet : (context : Context) (want : Want) (e : ExprSyntax) → AsWanted (AnExpr context want e) → InForm (AnExpr context want e) → least_broken (AnExpr context want e) ≡ None
 quiet context want e w f =
-    none_at 1 rules (AnExpr context want e)
+    none_at rules (AnExpr context want e)
     (refl, (refl, (refl, (f.0, (refl, (f.1, (refl, (f.2, (refl, (refl, (refl, (refl, (refl, (refl, (refl, (refl, (refl, (w.r18, (f.3, (w.r20, (f.4, (f.5, (f.6, (f.7, (f.8, (f.9, (f.10, (f.11, (f.12, (f.13, (refl, (refl, (refl, (refl, (w.r35, (w.r36, (w.r37, (w.r38, (w.r39, (refl, (refl, (refl, (refl, (refl, tt))))))))))))))))))))))))))))))))))))))))))))
 
 -- ---- what is wanted

@@ -2,6 +2,8 @@
 use Rattle.std.proofs.Common.{◌≡◌, List, [], ◌∷◌, map, Option, Some, None, Bool, true, false, cond, ◌||◌, refl, sym, ◌∙◌, ap}
 use Rattle.std.specs.List.{list_any, find}
 use Rattle.iv_words.specs.Words.{same_word}
+use Rattle.iv_words.specs.declared.Span.{Span}
+use Rattle.ivory_tree.specs.Syntax as syntax
 use Rattle.ivory_tree.specs.Syntax.{Word, ExprSyntax}
 use Rattle.ivory_tree.specs.declared.expr.BinOp.{BinOp}
 use Rattle.ivory_tree.specs.declared.expr.PrefixOp.{PrefixOp}
@@ -13,8 +15,8 @@ use Rattle.core_tree.specs.Syntax.{ExprCore}
 use Rattle.source_types.specs.Operators.{is_logic, is_comparison, gives_truth, is_arithmetic}
 use Rattle.source_types.specs.Settled.{settled}
 use Rattle.rule_faults.specs.Contexts as faults
-use Rattle.rule_faults.specs.Contexts.{in_scope, name_type}
-use Rattle.rule_faults.specs.Types.{type_of, prefix_type, first_type}
+use Rattle.rule_faults.specs.Contexts.{Context}
+use Rattle.rule_faults.specs.Types.{type_of, first_type}
 use Rattle.typing_rules.specs.Environments.{Env, Local}
 use Rattle.typing_rules.specs.Contexts.{local_of, context_of}
 use Rattle.typing_rules.specs.Expressions as rule
@@ -87,11 +89,11 @@ has_settled (rule.choice_by_second {first = first} {second = second} u n h v k) 
 
 -- ---- types
 
-prefix_same : (op : PrefixOp) (x y : Option ValueType) → is_arithmetic op ≡ true → prefix_type op x y ≡ x
-prefix_same Neg x y h = refl
-prefix_same Flip x y h = refl
-prefix_same Not x y h = let no : ⊥ = cc in absurd no
-prefix_same Deref x y h = let no : ⊥ = cc in absurd no
+prefix_same : (context : Context) (wanted : Option ValueType) (s : Span) (op : PrefixOp) (e : ExprSyntax) → is_arithmetic op ≡ true → type_of context wanted (syntax.Prefix s op e) ≡ type_of context wanted e
+prefix_same context wanted s Neg e h = refl
+prefix_same context wanted s Flip e h = refl
+prefix_same context wanted s Not e h = let no : ⊥ = cc in absurd no
+prefix_same context wanted s Deref e h = let no : ⊥ = cc in absurd no
 
 pub first_left : (left right : ExprSyntax) (x y : Option ValueType) → settled left ≡ true → first_type left right x y ≡ x
 first_left left right x y h = rw h refl
@@ -123,7 +125,7 @@ typed (rule.raw h v) w = rw (typed h None, v) refl
 typed (rule.set_field h k f n u l) w = rw (typed h None, k, l.ty) refl
 typed (rule.negated u) w = refl
 typed (rule.read h s) w = rw (typed h None, s) refl
-typed (rule.signed {env = env} {op = op} {e = e} a h p l) w = prefix_same op (type_of (context_of env) w e) (type_of (context_of env) None e) a ∙ typed h w ∙ ap Some (sym l.ty)
+typed (rule.signed {env = env} {s = s} {op = op} {e = e} a h p l) w = prefix_same (context_of env) w s op e a ∙ typed h w ∙ ap Some (sym l.ty)
 typed (rule.logical {op = op} l u v) w = rw (gives op l) refl
 typed (rule.by_left {env = env} {op = op} {left = left} {right = right} {c = c} l h u i k) w =
     operator_type op (core.type_of c) _ l (first_left left right (type_of (context_of env) w left) (type_of (context_of env) w right) (has_settled h) ∙ typed h w) ∙ ap Some (sym k.ty)
@@ -138,7 +140,7 @@ typed (rule.choice_by_second {env = env} {first = first} {second = second} u n h
 pub under_typed : {env : Env} {t : ValueType} {e : ExprSyntax} {c : ExprCore} → Under env t e c → (type_of (context_of env) (Some t) e ≡ Some t) × (core.type_of c ≡ t)
 under_typed (rule.has {t = t} h e) = (typed h (Some t) ∙ ap Some e, e)
 under_typed (rule.literal h) = (rw h refl, refl)
-under_typed (rule.signed_under {env = env} {t = t} {op = op} {e = e} a n u p l) = (prefix_same op (type_of (context_of env) (Some t) e) (type_of (context_of env) None e) a ∙ (under_typed u).0, l.ty)
+under_typed (rule.signed_under {env = env} {t = t} {s = s} {op = op} {e = e} a n u p l) = (prefix_same (context_of env) (Some t) s op e a ∙ (under_typed u).0, l.ty)
 under_typed (rule.operated_under {env = env} {t = t} {left = left} {right = right} g n m u v i l) =
     (rw g (first_unsettled left right (type_of (context_of env) (Some t) left) (type_of (context_of env) (Some t) right) n m ∙ (under_typed u).0), l.ty)
 under_typed (rule.choice_under {env = env} {t = t} {first = first} {second = second} b n m u v) =

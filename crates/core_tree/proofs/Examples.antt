@@ -17,10 +17,10 @@ use Rattle.core_tree.specs.Valid.{ValidCore, ProcsTyped}
 use Rattle.core_tree.specs.Examples as example
 use Rattle.core_tree.specs.Examples.{AdderIsValid, NumbersFollowTokens, OwnStays, CallsGoBack, DivisorsComeFirst}
 
-all_one : {A : Type 0} (P : A → Type 0) (x : A) → P x → All P (x ∷ [])
+pub all_one : {A : Type 0} (P : A → Type 0) (x : A) → P x → All P (x ∷ [])
 all_one P x h = All-cons P x [] h (All-nil P)
 
-all_two : {A : Type 0} (P : A → Type 0) (x y : A) → P x → P y → All P (x ∷ y ∷ [])
+pub all_two : {A : Type 0} (P : A → Type 0) (x y : A) → P x → P y → All P (x ∷ y ∷ [])
 all_two P x y h k = All-cons P x (y ∷ []) h (all_one P y k)
 
 -- ---- the valid one
@@ -34,16 +34,16 @@ adder = example.adder (example.returned (Whole (example.plain example.u8) sum))
 abbrev the_proc : ProcCore
 the_proc = record { name = 102 ∷ []; exported = true; params = example.param 97 ∷ example.param 98 ∷ []; result = Some example.u8; contracts = []; locals = example.u8 ∷ example.u8 ∷ []; body = example.returned (Whole (example.plain example.u8) sum) }
 
-unequal : (x y : ℕ) → x < y → (x ∷ []) ≢ (y ∷ [])
+pub unequal : (x y : ℕ) → x < y → (x ∷ []) ≢ (y ∷ [])
 unequal x y h e = let same : x ≡ y = cc in absurd (omega (arith, h, same))
 
-abbrev Different : Name → Name → Type 0
+abbrev pub Different : Name → Name → Type 0
 Different a b = a ≢ b
 
-none_different : AllDifferent []
+pub none_different : AllDifferent []
 none_different i j d ordered within = absurd (omega (arith, within))
 
-one_different : (name : Name) → AllDifferent (name ∷ [])
+pub one_different : (name : Name) → AllDifferent (name ∷ [])
 one_different name = AllPairs-cons Different name [] (All-nil (Different name)) none_different
 
 abbrev Outside : Name → Type 0
@@ -93,7 +93,7 @@ proc_typed = record {
 }
 
 -- the one element of a list
-only : {A : Type 0} (P : A → Type 0) (x y : A) → P x → Some x ≡ Some y → P y
+pub only : {A : Type 0} (P : A → Type 0) (x y : A) → P x → Some x ≡ Some y → P y
 only P x y h e = let same : x ≡ y = cc in subst P same h
 
 procs_typed : ProcsTyped adder

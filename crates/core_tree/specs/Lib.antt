@@ -20,3 +20,4 @@ pub mod TypedItems
 pub mod Valid
 pub mod Laws
 pub mod Examples
+pub mod PickExample

@@ -2,6 +2,7 @@
 
 ghost use Rattle.core_tree.specs.Laws.{SitesAreOneRow, ExportsAreAll};
 ghost use Rattle.core_tree.specs.Examples as example;
+ghost use Rattle.core_tree.specs.PickExample.{PickIsValid};
 
 /// The same checks are one row of sites at most.
 pub fn sites_are_one_row()
@@ -27,4 +28,10 @@ pub fn core_examples()
     ensures own { example.OwnStays }
     ensures calls { example.CallsGoBack }
     ensures division { example.DivisorsComeFirst }
+{}
+
+/// A core with references that is valid.
+#[tactic(auto, using(crate::proofs::PickExample::pick_is_valid))]
+pub fn pick_example()
+    ensures { PickIsValid }
 {}

@@ -1,5 +1,6 @@
--- What is asked of expressions, places, calls and initializers, in text order: the place of each rule is where its form begins.
-use Rattle.std.specs.Prelude.{ℕ, zero, suc, ◌==◌, ◌||◌, not, Bool, true, false, List, [], ◌∷◌, ◌++◌, length, codes, Option, Some, None}
+-- What is asked of expressions, places, calls and initializers, in text order: the place of each rule is where its form begins, that of a
+-- tag or a member where its name begins.
+use Rattle.std.specs.Prelude.{ℕ, zero, suc, ◌==◌, ◌||◌, ◌&&◌, if◌then◌else◌, not, Bool, true, false, List, [], ◌∷◌, ◌++◌, length, codes, Option, Some, None}
 use Rattle.std.specs.Option.{is_some, option_map}
 use Rattle.c_ast.specs.declared.types.CBase.{CBase}
 use Rattle.c_ast.specs.declared.types.CBase.TheVariants as base
@@ -9,7 +10,7 @@ use Rattle.c_ast.specs.declared.types.Target.{Target}
 use Rattle.c_ast.specs.Conversions.{constant_type}
 use Rattle.c_ast.specs.Names.{named}
 use Rattle.c_ast.specs.Signatures.{Signature}
-use Rattle.c_ast.specs.StaticTypes.{ValueType, Arithmetic, PointerTo, PlaceType, Held, Stored, declared, value_type, of_binary, of_choice, of_cast, of_read, of_address, expr_type, place_type, member_tree, may_be_given}
+use Rattle.c_ast.specs.StaticTypes.{ValueType, Arithmetic, PointerTo, PlaceType, Held, Stored, declared, value_type, of_cast, of_read, of_address, expr_type, place_type, member_tree, may_be_given}
 use Rattle.c_ast.specs.Structs.{CTree, CRow}
 use Rattle.c_ast.specs.Syntax.{Name, Expr, Number, Read, Address, Unary, Binary, Cast, Cond, Place, Var, At, Member, Element, Init, One, Zero, Many, Inits, NoInits, MoreInits, FunctionCall}
 use Rattle.c_ast.specs.Targets.{table_of}
@@ -59,12 +60,46 @@ type_demands names at Void = []
 type_demands names at (Value s) = []
 type_demands names at (Pointer constant b) = base_demands names at b
 
+abbrev pub is_known_base : Names → CBase → Bool
+is_known_base names (base.Scalar s) = true
+is_known_base names (base.Struct tag) = is_tag names tag
+
+abbrev pub is_known_type : Names → CType → Bool
+is_known_type names Void = true
+is_known_type names (Value s) = true
+is_known_type names (Pointer constant b) = is_known_base names b
+
+-- the tags of all casts in it are known
+abbrev mutual
+  pub tags_known : Names → Expr → Bool
+  tags_known names (Number v suffix) = true
+  tags_known names (Read place) = place_tags_known names place
+  tags_known names (Address place) = place_tags_known names place
+  tags_known names (Unary op e) = tags_known names e
+  tags_known names (Binary op a b) = tags_known names a && tags_known names b
+  tags_known names (Cast t e) = is_known_type names t && tags_known names e
+  tags_known names (Cond c a b) = tags_known names c && tags_known names a && tags_known names b
+
+  pub place_tags_known : Names → Place → Bool
+  place_tags_known names (Var x) = true
+  place_tags_known names (At e) = tags_known names e
+  place_tags_known names (Member place m) = place_tags_known names place
+  place_tags_known names (Element place e) = place_tags_known names place && tags_known names e
+
+-- a function's name by itself
+abbrev pub is_function_name : Names → Place → Bool
+is_function_name names (Var x) = is_function names x
+is_function_name names (At e) = false
+is_function_name names (Member place m) = false
+is_function_name names (Element place e) = false
+
 module _ (target : Target) (names : Names) where
+  -- an expression with an unknown tag in it has no type
   abbrev pub type_of : Expr → Option ValueType
-  type_of e = expr_type (table_of target) names.structs (declared (usable names)) e
+  type_of e = if tags_known names e then expr_type (table_of target) names.structs (declared (usable names)) e else None
 
   abbrev pub place_of : Place → Option PlaceType
-  place_of place = place_type (table_of target) names.structs (declared (usable names)) place
+  place_of place = if place_tags_known names place then place_type (table_of target) names.structs (declared (usable names)) place else None
 
   -- ---- expressions and places
 
@@ -72,16 +107,16 @@ module _ (target : Target) (names : Names) where
     pub expr_demands : ℕ → Expr → List Demand
     expr_demands at (Number v suffix) = ask at ConstantHasType (is_some (constant_type target suffix v))
     expr_demands at (Read place) = ask at ReadHasValue (where_typed (λ p. is_some (of_read p)) (place_of place)) ++ place_demands at place
-    expr_demands at (Address place) = ask at AddressIsOfObject (where_typed (λ p. is_some (of_address p)) (place_of place)) ++ place_demands (behind at (codes "(&")) place
+    expr_demands at (Address place) = ask at AddressIsOfObject (not (is_function_name names place) && where_typed (λ p. is_some (of_address p)) (place_of place)) ++ place_demands (behind at (codes "(&")) place
     expr_demands at (Unary op e) = ask at OperandsAreScalars (where_typed is_number (type_of e)) ++ expr_demands (behind at (codes "(" ++ unary_text op)) e
     expr_demands at (Binary op a b) =
-        ask at OperandsAreScalars (where_both (λ v w. is_some (of_binary (table_of target) op v w)) (type_of a) (type_of b))
+        ask at OperandsAreScalars (where_typed is_number (type_of a) && where_typed is_number (type_of b))
         ++ expr_demands (behind at (codes "(")) a ++ expr_demands (behind at (codes "(" ++ expr_text a ++ codes " " ++ binary_text op ++ codes " ")) b
     expr_demands at (Cast t e) =
         ask at CastIsAllowed (where_typed (λ v. is_some (of_cast t v)) (type_of e))
         ++ type_demands names (behind at (codes "((")) t ++ expr_demands (behind at (codes "((" ++ type_text t ++ codes ")")) e
     expr_demands at (Cond c a b) =
-        ask at OperandsAreScalars (where_typed (λ v. where_both (λ w x. is_some (of_choice (table_of target) v w x)) (type_of a) (type_of b)) (type_of c))
+        ask at OperandsAreScalars (where_typed is_number (type_of c) && where_typed is_number (type_of a) && where_typed is_number (type_of b))
         ++ expr_demands (behind at (codes "(")) c ++ expr_demands (behind at (codes "(" ++ expr_text c ++ codes " ? ")) a
         ++ expr_demands (behind at (codes "(" ++ expr_text c ++ codes " ? " ++ expr_text a ++ codes " : ")) b
 

@@ -6,17 +6,18 @@ use Rattle.c_ast.specs.declared.types.CScalar.TheVariants.{Int}
 use Rattle.c_ast.specs.declared.types.CBase.{CBase}
 use Rattle.c_ast.specs.declared.types.CBase.TheVariants as base
 use Rattle.c_ast.specs.declared.types.CType.TheVariants.{Value, Pointer}
+use Rattle.c_ast.specs.declared.expr.CBinary.TheVariants.{Add}
 use Rattle.c_ast.specs.declared.expr.Suffix.TheVariants.{Plain}
 use Rattle.c_ast.specs.declared.unit.CStruct.{CStruct}
 use Rattle.c_ast.specs.Examples.{procedure, unit_with}
-use Rattle.c_ast.specs.Syntax.{Name, Expr, Number, Read, Address, Var, Member, Element, One, Zero, Many, NoInits, MoreInits, Stmt, Const, Object, Assign, Forever, Break, Return, Block, Call, Nil, Cons}
+use Rattle.c_ast.specs.Syntax.{Name, Expr, Number, Read, Address, Binary, Cast, Var, Member, Element, One, Zero, Many, NoInits, MoreInits, Stmt, Const, Object, Assign, Forever, Break, Return, Block, Call, Nil, Cons}
 use Rattle.c_text.specs.declared.fault.CFault.{CFault}
 use Rattle.c_text.specs.declared.fault.CWhy.{CWhy}
 use Rattle.c_text.specs.declared.fault.CWhy.TheVariants.{BadName, BadType}
 use Rattle.c_text.specs.UnitRules.{unit_demands}
 use Rattle.c_text.specs.FirstFault.{first_fault}
 
--- the first fault of `void iv_a(void) { .. }` behind the three fixed lines, whose statements begin at byte 95 less 2
+-- the first fault of `void iv_a(void) { .. }` behind the three fixed lines, whose first statement stands at byte 95
 abbrev pub fault_in : List Stmt → Option CFault
 fault_in body = first_fault (unit_demands T32 (unit_with [] (procedure false (codes "iv_a") body ∷ [])))
 
@@ -75,6 +76,9 @@ pub record FaultExamples : Type 0 where
   pub const_assigned : fault_in (const_x ∷ Assign (Var x) one ∷ []) ≡ bad 118 BadType
   pub const_address : fault_in (const_x ∷ Const (codes "y") (Pointer false (base.Scalar (Int U8))) (Address (Var x)) ∷ []) ≡ bad 137 BadType
   pub address_of_const_member : fault_in (const_x ∷ Const (codes "y") (Pointer false (base.Scalar (Int U8))) (Address (Member (Var x) (codes "m"))) ∷ []) ≡ bad 139 BadType
+  pub pointer_operand : fault_in (byte_x ∷ Assign (Var x) (Binary Add (Address (Var x)) (Read (Var (codes "z")))) ∷ []) ≡ bad 116 BadType
+  pub cast_to_unknown : fault_in (byte_x ∷ Const (codes "y") (Pointer false (base.Scalar (Int U8))) (Cast (Pointer false (base.Struct (codes "iv_Q"))) (Address (Var x))) ∷ []) ≡ bad 140 BadName
+  pub function_address : fault_in (byte_x ∷ Assign (Var x) (Address (Var (codes "iv_a"))) ∷ []) ≡ bad 116 BadType
 
 pub record StructFaultExamples : Type 0 where
   pub none : fault_with_struct (point_x ∷ Assign (Element (Member (Var x) (codes "iv_r")) one) one ∷ []) ≡ None

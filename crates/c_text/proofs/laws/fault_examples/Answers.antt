@@ -30,6 +30,9 @@ returns-clause-faults c = record {
   const_assigned = simp (one_is, two_is) refl;
   const_address = simp (one_is, two_is) refl;
   address_of_const_member = simp (one_is, two_is) refl;
+  pointer_operand = simp (one_is, two_is) refl;
+  cast_to_unknown = simp (one_is, two_is) refl;
+  function_address = simp (one_is, two_is) refl;
 }
 
 pub returns-clause-structs : goal.returns-clause-structs

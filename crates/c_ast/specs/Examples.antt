@@ -1,7 +1,7 @@
 -- Small units, and exactly what they export: examples that hold the definitions fast.
 use Rattle.std.specs.Prelude.{◌≡◌, List, [], ◌∷◌, Some, None, Bool, true, false, codes}
 use Rattle.iv_words.specs.declared.IntKind.TheVariants.{U8}
-use Rattle.iv_script.specs.declared.Plain.TheVariants as plain
+use Rattle.run_records.specs.declared.Plain.TheVariants as plain
 use Rattle.c_ast.specs.declared.types.CScalar.TheVariants.{Truth, Int}
 use Rattle.c_ast.specs.declared.types.CType.{CType}
 use Rattle.c_ast.specs.declared.types.CType.TheVariants.{Void, Value, Pointer}

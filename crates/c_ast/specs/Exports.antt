@@ -1,9 +1,9 @@
 -- What the outside may call in a unit: its functions without `static` whose parameters and result are integers, `bool` or `void`.
 use Rattle.std.specs.Prelude.{List, [], ◌∷◌, Option, Some, None, Bool, true, false, ◌++◌}
 use Rattle.std.specs.Option.{option_map, option_and_then}
-use Rattle.iv_script.specs.declared.Plain.{Plain}
-use Rattle.iv_script.specs.declared.Plain.TheVariants as plain
-use Rattle.iv_script.specs.declared.Export.{Export}
+use Rattle.run_records.specs.declared.Plain.{Plain}
+use Rattle.run_records.specs.declared.Plain.TheVariants as plain
+use Rattle.run_records.specs.declared.Export.{Export}
 use Rattle.c_ast.specs.declared.types.CScalar.{CScalar}
 use Rattle.c_ast.specs.declared.types.CScalar.TheVariants.{Truth, Int}
 use Rattle.c_ast.specs.declared.types.CType.{CType}

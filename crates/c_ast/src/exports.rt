@@ -7,8 +7,8 @@ ghost use Rattle.c_ast.specs.View.{function_of, unit_of};
 
 use crate::types::{CScalar, CType};
 use crate::unit::{CFunction, CParam, CUnit};
-use iv_script::{Export, Plain};
 use iv_words::{Memory, Seq, Word};
+use run_records::{Export, Plain};
 use std::alloc::Global;
 
 /// The functions without `static` whose parameters and result are integers, `bool` or `void`, in order; a name that begins

@@ -6,8 +6,8 @@ use crate::{
     CType, CUnit, Suffix, Target, align_of, c_exports, common, convert, offset_of, promote,
     size_of,
 };
-use iv_script::Plain;
 use iv_words::{Box, IntKind, Memory, Seq, Word};
+use run_records::Plain;
 use std::alloc::Global;
 
 #[test]

@@ -3,9 +3,9 @@ use Rattle.std.proofs.Common.{◌≡◌, ◌≢◌, ℕ, ℤ, pos, ◌<◌, ◌�
 use Rattle.std.specs.Prelude.{All, IsTrue, if◌then◌else◌, replicate}
 use Rattle.std.proofs.lemmas.List.Elements.{All-head, All-tail}
 use Rattle.iv_words.specs.declared.IntKind.TheVariants.{U8}
-use Rattle.iv_script.specs.declared.Export.{Export}
+use Rattle.run_records.specs.declared.Export.{Export}
 use Rattle.iv_words.specs.Words.{same_word}
-use Rattle.iv_script.specs.Scripts.{export_of, found_fits, values_fit}
+use Rattle.run_records.specs.Scripts.{export_of, found_fits, values_fit}
 use Rattle.step_semantics.specs.Steps.{World, Progress, Part, give, after, bind, tick, change, left}
 use Rattle.step_semantics.specs.Control.{Control, Falls, Broke, Returned, onward}
 use Rattle.step_semantics.specs.Imports.{import_call}
@@ -29,8 +29,8 @@ use Rattle.c_ast.specs.declared.CScalar.TheVariants.{Int}
 use Rattle.c_ast.specs.declared.CType.TheVariants.{Void, Value}
 use Rattle.c_ast.specs.Names.{prefixed}
 use Rattle.c_ast.specs.Syntax.{Function}
-use Rattle.iv_script.specs.declared.Piece.{Piece}
-use Rattle.iv_script.specs.declared.Piece.TheVariants as piece
+use Rattle.run_records.specs.declared.Piece.{Piece}
+use Rattle.run_records.specs.declared.Piece.TheVariants as piece
 use Rattle.c_meaning.specs.Values.{Trouble, CValue, on_ok, as_arguments}
 use Rattle.c_meaning.specs.Memory.{CObjects}
 use Rattle.c_meaning.specs.State.{Program, program_of, CState, at_rest, seen, leave, enter, pop}

@@ -1,7 +1,7 @@
 -- The unit does what the module does, for every script that fits it: within the same number of steps the C shows nothing that the
 -- source does not, within 16n+16 steps all that the source shows within n, both end alike, and the C is never undefined.
-use Rattle.iv_script.specs.declared.Script.{Script}
-use Rattle.iv_script.specs.Scripts.{Fits}
+use Rattle.run_records.specs.declared.Script.{Script}
+use Rattle.run_records.specs.Scripts.{Fits}
 use Rattle.step_semantics.specs.Refines as runs
 use Rattle.first_form.specs.declared.FirstModule.{FirstModule}
 use Rattle.first_meaning.specs.Source.{run_src, exports_of}

@@ -5,7 +5,7 @@ use Rattle.std.proofs.lemmas.Int.{ints}
 use Rattle.std.proofs.lemmas.Nat.{pow_pos}
 use Rattle.std.proofs.Math.Nat.{mod-eq_of_lt, pow-suc}
 use Rattle.iv_words.specs.Kinds.{in_range_of}
-use Rattle.iv_script.specs.declared.Reason.{Reason}
+use Rattle.run_records.specs.declared.Reason.{Reason}
 use Rattle.c_meaning.specs.Operators.{bits_of, number_of_bits, bitwise}
 
 pub bits_of_natural : (bits n : ℕ) → n < 2 ^ bits → bits_of bits (pos n) ≡ n

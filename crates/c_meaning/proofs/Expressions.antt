@@ -20,7 +20,7 @@ use Rattle.c_ast.specs.Syntax.{Name, FileObject, Expr, Number, Read, Address, Un
 use Rattle.c_ast.specs.Structs.{CTree}
 use Rattle.type_trees.specs.Trees.{Leaf, Many, Struct}
 use Rattle.c_memory.specs.Access.{Fault}
-use Rattle.iv_script.specs.declared.Reason.TheVariants.{Dead, Bounds}
+use Rattle.run_records.specs.declared.Reason.TheVariants.{Dead, Bounds}
 use Rattle.c_ast.specs.StaticTypes.{ValueType, Arithmetic, PointerTo, PlaceType, Stored, Entity, ObjectName, declared, of_unary, of_binary, of_choice, of_cast, of_entity, of_read, of_address, of_pointee, of_member, of_element, member_tree, of_both}
 use Rattle.c_ast.specs.Targets.{TargetTable, table_of, arith_bits, arith_signed, common_type}
 use Rattle.c_ast.specs.Conversions.{convert_in, can_hold, candidates, first_of_types, constant_type_in}

@@ -1,9 +1,9 @@
 -- Every part of a run of C keeps the laws of parts: events only grow, and more steps change nothing but that it goes further.
 use Rattle.std.proofs.Common.{ℤ, List, [], ◌∷◌, Option, Some, None, Bool, true, false, refl}
 use Rattle.std.specs.Prelude.{if◌then◌else◌, Result, Ok, Err}
-use Rattle.iv_script.specs.declared.EntryCall.{EntryCall}
-use Rattle.iv_script.specs.declared.Reason.TheVariants.{NoValue}
-use Rattle.iv_script.specs.declared.Script.{Script}
+use Rattle.run_records.specs.declared.EntryCall.{EntryCall}
+use Rattle.run_records.specs.declared.Reason.TheVariants.{NoValue}
+use Rattle.run_records.specs.declared.Script.{Script}
 use Rattle.step_semantics.specs.Steps.{FailedCheck, Part, tick, change}
 use Rattle.step_semantics.specs.Control.{Control, Falls, Broke, Returned}
 use Rattle.step_semantics.specs.Lawful.{Lawful}

@@ -6,8 +6,8 @@ use Rattle.std.specs.Ordering.{int_eq}
 use Rattle.std.proofs.lemmas.Int.{ints}
 use Rattle.std.proofs.lemmas.Nat.{pow_pos}
 use Rattle.iv_words.specs.Kinds.{in_range_of}
-use Rattle.iv_script.specs.declared.Reason.{Reason}
-use Rattle.iv_script.specs.declared.Reason.TheVariants.{Shift}
+use Rattle.run_records.specs.declared.Reason.{Reason}
+use Rattle.run_records.specs.declared.Reason.TheVariants.{Shift}
 use Rattle.c_ast.specs.declared.Arith.{Arith}
 use Rattle.c_ast.specs.declared.Arith.TheVariants.{Int, UInt, Long, ULong, LongLong, ULongLong}
 use Rattle.c_ast.specs.declared.CKind.{CKind}

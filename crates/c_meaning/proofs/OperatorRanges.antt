@@ -6,7 +6,7 @@ use Rattle.std.proofs.lemmas.Int.{ints, quot-rem}
 use Rattle.std.proofs.lemmas.Nat.{pow_pos, mod_below, and_le_l, or_lt, xor_lt, shr_le}
 use Rattle.std.proofs.Math.Nat.{mod-le, pow-suc}
 use Rattle.iv_words.specs.Kinds.{in_range_of}
-use Rattle.iv_script.specs.declared.Reason.{Reason}
+use Rattle.run_records.specs.declared.Reason.{Reason}
 use Rattle.c_meaning.specs.Values.{on_ok}
 use Rattle.c_meaning.specs.Operators.{Operator, fitted, sum, difference, product, quotient, remainder, bits_of, number_of_bits, bitwise, shifted_left, shifted_right, flipped}
 use Rattle.iv_words.proofs.Modular.{modulo_in_range, modulo_of_held}

@@ -5,11 +5,11 @@ use Rattle.std.specs.List.{find}
 use Rattle.std.specs.Prelude.{⊤, ◌++◌, ◌&&◌, not, if◌then◌else◌, Result, Ok, Err}
 use Rattle.iv_words.specs.Words.{same_word}
 use Rattle.iv_words.specs.declared.IntKind.TheVariants.{U32}
-use Rattle.iv_script.specs.declared.EntryCall.{EntryCall}
-use Rattle.iv_script.specs.declared.End.TheVariants.{Stopped}
-use Rattle.iv_script.specs.declared.Piece.{Piece}
-use Rattle.iv_script.specs.declared.Reason.TheVariants.{NoValue}
-use Rattle.iv_script.specs.declared.Script.{Script}
+use Rattle.run_records.specs.declared.EntryCall.{EntryCall}
+use Rattle.run_records.specs.declared.End.TheVariants.{Stopped}
+use Rattle.run_records.specs.declared.Piece.{Piece}
+use Rattle.run_records.specs.declared.Reason.TheVariants.{NoValue}
+use Rattle.run_records.specs.declared.Script.{Script}
 use Rattle.step_semantics.specs.Steps.{World, Progress, Finished, Halted, Exhausted, Part, after, bind, tick, by_state, left, block}
 use Rattle.step_semantics.specs.Control.{Control, Falls, Broke, Returned, onward, again, turns, forever}
 use Rattle.step_semantics.specs.Frames.{in_frame}

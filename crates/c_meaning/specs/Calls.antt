@@ -3,9 +3,9 @@ use Rattle.std.specs.Prelude.{ℕ, ℤ, unsigned_abs, List, [], ◌∷◌, ◌++
 use Rattle.std.specs.List.{find}
 use Rattle.iv_words.specs.Words.{same_word}
 use Rattle.iv_words.specs.declared.IntKind.TheVariants.{U32}
-use Rattle.iv_script.specs.declared.Piece.{Piece}
-use Rattle.iv_script.specs.declared.Piece.TheVariants as piece
-use Rattle.iv_script.specs.declared.Plain.{Plain}
+use Rattle.run_records.specs.declared.Piece.{Piece}
+use Rattle.run_records.specs.declared.Piece.TheVariants as piece
+use Rattle.run_records.specs.declared.Plain.{Plain}
 use Rattle.step_semantics.specs.Steps.{FailedCheck, Part, halt, bind, by_state, change}
 use Rattle.step_semantics.specs.Imports.{import_call}
 use Rattle.type_trees.specs.Trees.{scalars, count}

@@ -1,14 +1,14 @@
 -- Small units, and exactly what their runs come to: examples that hold the definitions fast.
 use Rattle.std.specs.Prelude.{◌≡◌, ℕ, ℤ, pos, List, [], ◌∷◌, map, Some, None, Bool, true, false, codes}
 use Rattle.iv_words.specs.declared.IntKind.TheVariants.{U8, I8}
-use Rattle.iv_script.specs.declared.Event.{Event}
-use Rattle.iv_script.specs.declared.Event.TheVariants as event
-use Rattle.iv_script.specs.declared.Piece.TheVariants as piece
-use Rattle.iv_script.specs.declared.End.{End}
-use Rattle.iv_script.specs.declared.End.TheVariants.{Ended, Stopped, NoReply, BadReply, Going, Undefined}
-use Rattle.iv_script.specs.declared.Outcome.{Outcome}
-use Rattle.iv_script.specs.declared.Reason.TheVariants.{Implementation, NoValue}
-use Rattle.iv_script.specs.declared.Script.{Script}
+use Rattle.run_records.specs.declared.Event.{Event}
+use Rattle.run_records.specs.declared.Event.TheVariants as event
+use Rattle.run_records.specs.declared.Piece.TheVariants as piece
+use Rattle.run_records.specs.declared.End.{End}
+use Rattle.run_records.specs.declared.End.TheVariants.{Ended, Stopped, NoReply, BadReply, Going, Undefined}
+use Rattle.run_records.specs.declared.Outcome.{Outcome}
+use Rattle.run_records.specs.declared.Reason.TheVariants.{Implementation, NoValue}
+use Rattle.run_records.specs.declared.Script.{Script}
 use Rattle.c_ast.specs.declared.Target.TheVariants.{T32}
 use Rattle.c_ast.specs.declared.CScalar.TheVariants.{Truth, Int}
 use Rattle.c_ast.specs.declared.CType.{CType}

@@ -1,8 +1,8 @@
 -- What holds of every run of C, and when a run is never stuck.
 use Rattle.std.specs.Prelude.{◌≡◌, ◌≢◌, ℕ, ℤ, ◌^◌, List, map, Ok, IsTrue}
-use Rattle.iv_script.specs.declared.End.TheVariants.{Stopped}
-use Rattle.iv_script.specs.declared.Script.{Script}
-use Rattle.iv_script.specs.Scripts.{Fits}
+use Rattle.run_records.specs.declared.End.TheVariants.{Stopped}
+use Rattle.run_records.specs.declared.Script.{Script}
+use Rattle.run_records.specs.Scripts.{Fits}
 use Rattle.step_semantics.specs.Steps.{Halt, FailedCheck}
 use Rattle.step_semantics.specs.Outcomes.{OutcomeLaws}
 use Rattle.c_memory.specs.Abstract.{Lawful}

@@ -2,8 +2,8 @@
 -- reasons for which it refuses.
 use Rattle.std.specs.Prelude.{ℤ, pos, Bool, false, Option, Some, None, Result, Ok, Err}
 use Rattle.iv_words.specs.Words.{same_word}
-use Rattle.iv_script.specs.declared.Reason.{Reason}
-use Rattle.iv_script.specs.declared.Reason.TheVariants as reason
+use Rattle.run_records.specs.declared.Reason.{Reason}
+use Rattle.run_records.specs.declared.Reason.TheVariants as reason
 use Rattle.type_trees.specs.Trees.{Leaf, Many, Struct}
 use Rattle.c_memory.specs.Abstract.{Operations}
 use Rattle.c_memory.specs.Access.{Fault, Dead, BadAccess, Indeterminate, ConstWrite}

@@ -1,13 +1,13 @@
 -- Small units with objects, pointers and initializers, and exactly what their runs come to.
 use Rattle.std.specs.Prelude.{◌≡◌, ℕ, ℤ, pos, codes, List, [], ◌∷◌, ◌++◌, Option, Some, None, Bool, true, false}
 use Rattle.iv_words.specs.declared.IntKind.TheVariants.{U8, I8}
-use Rattle.iv_script.specs.declared.AreaCells.{AreaCells}
-use Rattle.iv_script.specs.declared.Event.{Event}
-use Rattle.iv_script.specs.declared.Event.TheVariants as event
-use Rattle.iv_script.specs.declared.Piece.TheVariants as piece
-use Rattle.iv_script.specs.declared.End.TheVariants.{Ended, NoReply, Going, Undefined}
-use Rattle.iv_script.specs.declared.Outcome.{Outcome}
-use Rattle.iv_script.specs.declared.Reason.TheVariants.{DivZero, Dead, Bounds, Indeterminate, ConstWrite, Implementation}
+use Rattle.run_records.specs.declared.AreaCells.{AreaCells}
+use Rattle.run_records.specs.declared.Event.{Event}
+use Rattle.run_records.specs.declared.Event.TheVariants as event
+use Rattle.run_records.specs.declared.Piece.TheVariants as piece
+use Rattle.run_records.specs.declared.End.TheVariants.{Ended, NoReply, Going, Undefined}
+use Rattle.run_records.specs.declared.Outcome.{Outcome}
+use Rattle.run_records.specs.declared.Reason.TheVariants.{DivZero, Dead, Bounds, Indeterminate, ConstWrite, Implementation}
 use Rattle.c_ast.specs.declared.Target.TheVariants.{T32}
 use Rattle.c_ast.specs.declared.CScalar.TheVariants.{Int as Exact}
 use Rattle.c_ast.specs.declared.CBase.{CBase}

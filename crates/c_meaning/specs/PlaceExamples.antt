@@ -1,7 +1,7 @@
 -- Places, reads, addresses and casts of pointers in a small memory, and exactly what they come to: examples that hold the definitions fast.
 use Rattle.std.specs.Prelude.{◌≡◌, ℕ, ℤ, pos, codes, List, [], ◌∷◌, Some, None, Bool, true, false, Result, Ok, Err}
 use Rattle.iv_words.specs.declared.IntKind.TheVariants.{U8, U32, I8}
-use Rattle.iv_script.specs.declared.Reason.TheVariants.{DivZero, Dead, Bounds, BadAccess, Indeterminate}
+use Rattle.run_records.specs.declared.Reason.TheVariants.{DivZero, Dead, Bounds, BadAccess, Indeterminate}
 use Rattle.c_memory.specs.Blocks.{leave}
 use Rattle.c_ast.specs.declared.Target.TheVariants.{T32}
 use Rattle.c_ast.specs.declared.CScalar.TheVariants.{Int as Exact}

@@ -1,7 +1,7 @@
 -- What places come to (C99 6.3.2.1): the value of a const name, or a part of an object; what is read there, and where pointers lead.
 use Rattle.std.specs.Prelude.{ℕ, suc, ◌+◌, ◌*◌, ℤ, pos, int_le, int_lt, unsigned_abs, Bool, false, ◌&&◌, if◌then◌else◌, List, [], ◌∷◌, Option, Some, None, Result, Ok, Err}
 use Rattle.iv_words.specs.Words.{same_word}
-use Rattle.iv_script.specs.declared.Reason.TheVariants.{Dead, Bounds}
+use Rattle.run_records.specs.declared.Reason.TheVariants.{Dead, Bounds}
 use Rattle.type_trees.specs.Trees.{Leaf, Many, Struct}
 use Rattle.type_trees.specs.Layouts.{size}
 use Rattle.c_memory.specs.Standing.{refuses_cast}

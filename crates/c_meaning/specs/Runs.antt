@@ -1,9 +1,9 @@
 -- Functions, entry calls, and the whole run of a unit.
 use Rattle.std.specs.Prelude.{ℕ, ℤ, List, [], ◌∷◌, map, Option, Some, None, ◌&&◌, not, if◌then◌else◌, Result, Ok, Err}
 use Rattle.iv_words.specs.Words.{same_word}
-use Rattle.iv_script.specs.declared.Outcome.{Outcome}
-use Rattle.iv_script.specs.declared.Reason.TheVariants.{NoValue}
-use Rattle.iv_script.specs.declared.Script.{Script}
+use Rattle.run_records.specs.declared.Outcome.{Outcome}
+use Rattle.run_records.specs.declared.Reason.TheVariants.{NoValue}
+use Rattle.run_records.specs.declared.Script.{Script}
 use Rattle.step_semantics.specs.Steps.{Part, give, bind, by_state, block}
 use Rattle.step_semantics.specs.Control.{Control, Falls, Broke, Returned}
 use Rattle.step_semantics.specs.Runs.{Body, end_of, run}

@@ -1,7 +1,7 @@
 -- What a run of C works on: the program, its state, and what the outside sees of it.
 use Rattle.std.specs.Prelude.{ℕ, suc, ℤ, List, [], ◌∷◌, length, Bool, Result, Ok, Err}
-use Rattle.iv_script.specs.declared.AreaCells.{AreaCells}
-use Rattle.iv_script.specs.declared.Reason.TheVariants.{NoValue}
+use Rattle.run_records.specs.declared.AreaCells.{AreaCells}
+use Rattle.run_records.specs.declared.Reason.TheVariants.{NoValue}
 use Rattle.step_semantics.specs.Steps.{Halt, NoMeaning, Part}
 use Rattle.step_semantics.specs.Frames.{in_frame}
 use Rattle.type_trees.specs.Layouts.{lay}

@@ -1,6 +1,6 @@
 -- The meaning of statements (C99 6.8). Each takes its step after its operands and before it acts; a block takes none.
 use Rattle.std.specs.Prelude.{Bool, false, Option, Some, None, if◌then◌else◌, Result, Err}
-use Rattle.iv_script.specs.declared.Reason.TheVariants.{NoValue}
+use Rattle.run_records.specs.declared.Reason.TheVariants.{NoValue}
 use Rattle.step_semantics.specs.Steps.{Part, give, bind, tick, by_state, change, block}
 use Rattle.step_semantics.specs.Control.{Control, Falls, Broke, Returned, also, forever}
 use Rattle.type_trees.specs.Trees.{Leaf, Many, Struct}

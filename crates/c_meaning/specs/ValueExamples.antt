@@ -1,7 +1,7 @@
 -- Small expressions, and exactly what they come to: examples that hold the definitions fast.
 use Rattle.std.specs.Prelude.{◌≡◌, ℕ, pos, codes, [], ◌∷◌, Some, Result, Ok, Err}
 use Rattle.iv_words.specs.declared.IntKind.TheVariants.{U8, U32, I8}
-use Rattle.iv_script.specs.declared.Reason.TheVariants.{DivZero, Shift, Implementation}
+use Rattle.run_records.specs.declared.Reason.TheVariants.{DivZero, Shift, Implementation}
 use Rattle.c_ast.specs.declared.Target.TheVariants.{T32}
 use Rattle.c_ast.specs.declared.CScalar.TheVariants.{Truth, Int as Exact}
 use Rattle.c_ast.specs.declared.Arith.TheVariants.{UInt}

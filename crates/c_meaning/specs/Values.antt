@@ -1,8 +1,8 @@
 -- Values with their types: how they are converted (C99 6.3.1), and the values of constants (6.4.4.1); and why there may be none.
 use Rattle.std.specs.Prelude.{ℕ, ℤ, pos, Bool, not, ◌&&◌, ◌||◌, if◌then◌else◌, List, [], ◌∷◌, Option, Some, None, Result, Ok, Err}
 use Rattle.std.specs.Ordering.{int_eq}
-use Rattle.iv_script.specs.declared.Reason.{Reason}
-use Rattle.iv_script.specs.declared.Reason.TheVariants.{Implementation}
+use Rattle.run_records.specs.declared.Reason.{Reason}
+use Rattle.run_records.specs.declared.Reason.TheVariants.{Implementation}
 use Rattle.c_ast.specs.declared.Target.{Target}
 use Rattle.c_ast.specs.declared.Arith.{Arith}
 use Rattle.c_ast.specs.declared.CBase.{CBase}

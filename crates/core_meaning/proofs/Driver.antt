@@ -2,7 +2,7 @@
 use Rattle.std.proofs.Common.{◌≡◌, ℕ, [], ◌∷◌, refl, ◌∙◌, ap}
 use Rattle.std.specs.Prelude.{pos, false}
 use Rattle.iv_words.specs.declared.IntKind.TheVariants.{U8}
-use Rattle.iv_script.specs.declared.Script.{Script}
+use Rattle.run_records.specs.declared.Script.{Script}
 use Rattle.step_semantics.specs.Runs.{run}
 use Rattle.type_trees.specs.Trees.{Leaf, Many, Struct, End, Field}
 use Rattle.area_types.specs.Syntax as syntax

@@ -1,8 +1,8 @@
 -- Statements keep the laws of parts, form by form.
 use Rattle.std.proofs.Common.{ℕ, List, [], ◌∷◌, Option, Some, None}
 use Rattle.std.specs.Prelude.{suc, pred, pos, unsigned_abs, slice_get}
-use Rattle.iv_script.specs.declared.Piece.{Piece}
-use Rattle.iv_script.specs.declared.Plain.{Plain}
+use Rattle.run_records.specs.declared.Piece.{Piece}
+use Rattle.run_records.specs.declared.Plain.{Plain}
 use Rattle.step_semantics.specs.Steps.{Part, give}
 use Rattle.step_semantics.specs.Control.{Falls, Broke}
 use Rattle.step_semantics.specs.Lawful.{Lawful}

@@ -1,9 +1,9 @@
 -- Areas: references that are passed and returned, copies, initializers, and what becomes of an area at the end of its block and of its call.
 use Rattle.std.specs.Prelude.{◌≡◌, ℕ, pos, false, List, [], ◌∷◌, Some, None, codes}
 use Rattle.iv_words.specs.declared.IntKind.TheVariants.{U8}
-use Rattle.iv_script.specs.declared.End.TheVariants.{Ended}
-use Rattle.iv_script.specs.declared.Outcome.{Outcome}
-use Rattle.iv_script.specs.declared.Reason.TheVariants.{Dead}
+use Rattle.run_records.specs.declared.End.TheVariants.{Ended}
+use Rattle.run_records.specs.declared.Outcome.{Outcome}
+use Rattle.run_records.specs.declared.Reason.TheVariants.{Dead}
 use Rattle.step_semantics.specs.Steps.{World, NoMeaning, Finished, Halted}
 use Rattle.step_semantics.specs.Control.{Falls, Returned}
 use Rattle.type_trees.specs.Trees.{Leaf, Many, Struct, End, Field as Member}

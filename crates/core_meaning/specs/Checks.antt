@@ -3,7 +3,7 @@ use Rattle.std.specs.Prelude.{ℕ, ℤ, pos, Bool, true, not, if◌then◌else�
 use Rattle.std.specs.List.{list_any}
 use Rattle.std.specs.Ordering.{int_eq}
 use denote.Enum.Bare.{sameb}
-use Rattle.iv_script.specs.declared.Reason.TheVariants.{Dead}
+use Rattle.run_records.specs.declared.Reason.TheVariants.{Dead}
 use Rattle.step_semantics.specs.Steps.{FailedCheck, NoMeaning, Part, give, halt, tick}
 use Rattle.core_tree.specs.declared.Check.{Check}
 use Rattle.core_tree.specs.declared.SiteKind.{SiteKind}

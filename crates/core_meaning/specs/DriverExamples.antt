@@ -1,12 +1,12 @@
 -- A driver, as a firmware author writes it: bit data, a struct with a ring of bytes, imports, contracts, and a script of forty calls.
 use Rattle.std.specs.Prelude.{◌≡◌, ℕ, zero, suc, ℤ, pos, true, false, List, [], ◌∷◌, Some, None, codes}
 use Rattle.iv_words.specs.declared.IntKind.TheVariants.{U8, U16}
-use Rattle.iv_script.specs.declared.AreaCells.{AreaCells}
-use Rattle.iv_script.specs.declared.End.TheVariants.{Ended, Stopped}
-use Rattle.iv_script.specs.declared.Event.{Event}
-use Rattle.iv_script.specs.declared.Event.TheVariants as event
-use Rattle.iv_script.specs.declared.Script.{Script}
-use Rattle.iv_script.specs.declared.Piece.TheVariants as piece
+use Rattle.run_records.specs.declared.AreaCells.{AreaCells}
+use Rattle.run_records.specs.declared.End.TheVariants.{Ended, Stopped}
+use Rattle.run_records.specs.declared.Event.{Event}
+use Rattle.run_records.specs.declared.Event.TheVariants as event
+use Rattle.run_records.specs.declared.Script.{Script}
+use Rattle.run_records.specs.declared.Piece.TheVariants as piece
 use Rattle.ivory_tree.specs.declared.BinOp.TheVariants.{Add, Sub, WrapAdd, Rem, Eq, Lt, Gt}
 use Rattle.bit_data.specs.declared.BitLayout.{BitLayout}
 use Rattle.area_types.specs.Syntax.{Name, ValueType, Truth, Int, Ix, Bits, Ref, Stored, Array, Struct, Area}

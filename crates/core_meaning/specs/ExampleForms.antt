@@ -1,13 +1,13 @@
 -- How small modules, scripts and what comes of them are written in the examples.
 use Rattle.std.specs.Prelude.{ℕ, ℤ, pos, true, false, List, [], ◌∷◌, map, Option, Some, None, ◌++◌, codes}
 use Rattle.std.specs.List.{zip}
-use Rattle.iv_script.specs.declared.AreaCells.{AreaCells}
-use Rattle.iv_script.specs.declared.End.{End}
-use Rattle.iv_script.specs.declared.End.TheVariants.{Going}
-use Rattle.iv_script.specs.declared.Event.{Event}
-use Rattle.iv_script.specs.declared.Event.TheVariants.{Ret}
-use Rattle.iv_script.specs.declared.Outcome.{Outcome}
-use Rattle.iv_script.specs.declared.Script.{Script}
+use Rattle.run_records.specs.declared.AreaCells.{AreaCells}
+use Rattle.run_records.specs.declared.End.{End}
+use Rattle.run_records.specs.declared.End.TheVariants.{Going}
+use Rattle.run_records.specs.declared.Event.{Event}
+use Rattle.run_records.specs.declared.Event.TheVariants.{Ret}
+use Rattle.run_records.specs.declared.Outcome.{Outcome}
+use Rattle.run_records.specs.declared.Script.{Script}
 use Rattle.ivory_tree.specs.declared.BinOp.{BinOp}
 use Rattle.ivory_tree.specs.declared.PrefixOp.TheVariants.{Deref}
 use Rattle.area_types.specs.Syntax.{Name, ValueType, Ref, Area, Stored}

@@ -1,7 +1,7 @@
 -- Each form of expression: what it gives, with how many steps and no fewer, and where its check fails.
 use Rattle.std.specs.Prelude.{◌≡◌, ℕ, suc, ℤ, pos, neg_ℤ, false, List, [], ◌∷◌, Some, None}
 use Rattle.iv_words.specs.declared.IntKind.TheVariants.{U8, I8}
-use Rattle.iv_script.specs.declared.Reason.TheVariants.{Dead}
+use Rattle.run_records.specs.declared.Reason.TheVariants.{Dead}
 use Rattle.step_semantics.specs.Steps.{World, FailedCheck, NoMeaning, Finished, Halted, Exhausted}
 use Rattle.type_trees.specs.Trees.{Leaf, Many, Struct, End, Field as Member}
 use Rattle.ivory_tree.specs.declared.BinOp.TheVariants.{OrElse, AndAlso, Eq, Lt, Add}

@@ -1,14 +1,14 @@
 -- Calls of imports: what the outside sees of them, and what its replies do.
 use Rattle.std.specs.Prelude.{◌≡◌, ℕ, ℤ, pos, true, false, List, [], ◌∷◌, replicate, Some, None, codes}
 use Rattle.iv_words.specs.declared.IntKind.TheVariants.{U8, U16}
-use Rattle.iv_script.specs.declared.End.{End}
-use Rattle.iv_script.specs.declared.End.TheVariants.{Ended, NoReply, BadReply, Undefined}
-use Rattle.iv_script.specs.declared.Event.{Event}
-use Rattle.iv_script.specs.declared.Event.TheVariants as event
-use Rattle.iv_script.specs.declared.Outcome.{Outcome}
-use Rattle.iv_script.specs.declared.Piece.TheVariants as piece
-use Rattle.iv_script.specs.declared.Plain.TheVariants as plain
-use Rattle.iv_script.specs.declared.Reason.TheVariants.{Dead}
+use Rattle.run_records.specs.declared.End.{End}
+use Rattle.run_records.specs.declared.End.TheVariants.{Ended, NoReply, BadReply, Undefined}
+use Rattle.run_records.specs.declared.Event.{Event}
+use Rattle.run_records.specs.declared.Event.TheVariants as event
+use Rattle.run_records.specs.declared.Outcome.{Outcome}
+use Rattle.run_records.specs.declared.Piece.TheVariants as piece
+use Rattle.run_records.specs.declared.Plain.TheVariants as plain
+use Rattle.run_records.specs.declared.Reason.TheVariants.{Dead}
 use Rattle.area_types.specs.Syntax.{ValueType, Truth, Int, Ix, Ref, Area, Stored, Array}
 use Rattle.area_types.specs.declared.region.Region.TheVariants.{Param}
 use Rattle.core_tree.specs.Syntax.{ModuleCore, CallCore, ExprCore, LetCall, Store, Call, Forever, Return}

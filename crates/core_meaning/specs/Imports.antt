@@ -3,9 +3,9 @@
 use Rattle.std.specs.Prelude.{ℤ, List, [], ◌∷◌, ◌++◌, drop, Option, Some, None, false}
 use Rattle.std.specs.List.{flat_map}
 use Rattle.std.specs.Option.{option_to_list, option_map, option_and_then}
-use Rattle.iv_script.specs.declared.Piece.{Piece}
-use Rattle.iv_script.specs.declared.Piece.TheVariants as piece
-use Rattle.iv_script.specs.declared.Plain.{Plain}
+use Rattle.run_records.specs.declared.Piece.{Piece}
+use Rattle.run_records.specs.declared.Piece.TheVariants as piece
+use Rattle.run_records.specs.declared.Plain.{Plain}
 use Rattle.step_semantics.specs.Steps.{Part, bind, tick, by_state, change}
 use Rattle.step_semantics.specs.Imports.{import_call}
 use Rattle.type_trees.specs.Trees.{count, scalars}

@@ -1,6 +1,6 @@
 -- The laws of runs, of expressions, and of values that are made of numbers.
 use Rattle.std.specs.Prelude.{◌≡◌, ℕ, ◌≤◌, ℤ, List, ◌++◌, length, drop, Option}
-use Rattle.iv_script.specs.declared.Script.{Script}
+use Rattle.run_records.specs.declared.Script.{Script}
 use Rattle.step_semantics.specs.Steps.{World}
 use Rattle.step_semantics.specs.Outcomes.{OutcomeLaws}
 use Rattle.type_trees.specs.Trees.{count}

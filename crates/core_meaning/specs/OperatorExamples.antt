@@ -2,8 +2,8 @@
 use Rattle.std.specs.Prelude.{◌≡◌, ℕ, ℤ, pos, neg_ℤ, List, [], ◌∷◌, Some, codes}
 use Rattle.iv_words.specs.declared.IntKind.{IntKind}
 use Rattle.iv_words.specs.declared.IntKind.TheVariants.{U8, U16, I8, I32, I64}
-use Rattle.iv_script.specs.declared.End.TheVariants.{Ended, Stopped}
-use Rattle.iv_script.specs.declared.Outcome.{Outcome}
+use Rattle.run_records.specs.declared.End.TheVariants.{Ended, Stopped}
+use Rattle.run_records.specs.declared.Outcome.{Outcome}
 use Rattle.ivory_tree.specs.declared.BinOp.{BinOp}
 use Rattle.ivory_tree.specs.declared.BinOp.TheVariants as op
 use Rattle.area_types.specs.Syntax.{Name, Truth, Int}

@@ -1,8 +1,8 @@
 -- Procedures, entry calls, and the whole run of a module.
 use Rattle.std.specs.Prelude.{ℕ, suc, ℤ, List, [], ◌∷◌, map, Option, Some, None, ◌==◌, ◌&&◌, if◌then◌else◌}
 use Rattle.iv_words.specs.Words.{same_word}
-use Rattle.iv_script.specs.declared.Outcome.{Outcome}
-use Rattle.iv_script.specs.declared.Script.{Script}
+use Rattle.run_records.specs.declared.Outcome.{Outcome}
+use Rattle.run_records.specs.declared.Script.{Script}
 use Rattle.step_semantics.specs.Steps.{Part, give, bind}
 use Rattle.step_semantics.specs.Control.{Falls, Broke, Returned}
 use Rattle.step_semantics.specs.Frames.{in_frame}

@@ -2,7 +2,7 @@
 use Rattle.std.specs.Prelude.{ℕ, suc, List, [], ◌∷◌, ◌++◌, length, map, ◌==◌, Option, false}
 use Rattle.std.specs.List.{find, zip}
 use Rattle.std.specs.Option.{option_map, option_map_or}
-use Rattle.iv_script.specs.declared.AreaCells.{AreaCells}
+use Rattle.run_records.specs.declared.AreaCells.{AreaCells}
 use Rattle.step_semantics.specs.Frames.{Frames, push_frame, pop_frame}
 use Rattle.type_trees.specs.Values.{cells}
 use Rattle.area_types.specs.Tables.{written_out}

@@ -1,10 +1,10 @@
 -- Statements and their steps: loops that count from both ends, ways out of them, choices, conditions and contracts.
 use Rattle.std.specs.Prelude.{◌≡◌, ℕ, ℤ, pos, true, false, List, [], ◌∷◌, Some, None, codes}
 use Rattle.iv_words.specs.declared.IntKind.TheVariants.{U8}
-use Rattle.iv_script.specs.declared.End.{End}
-use Rattle.iv_script.specs.declared.End.TheVariants.{Ended, Stopped}
-use Rattle.iv_script.specs.declared.Event.{Event}
-use Rattle.iv_script.specs.declared.Outcome.{Outcome}
+use Rattle.run_records.specs.declared.End.{End}
+use Rattle.run_records.specs.declared.End.TheVariants.{Ended, Stopped}
+use Rattle.run_records.specs.declared.Event.{Event}
+use Rattle.run_records.specs.declared.Outcome.{Outcome}
 use Rattle.ivory_tree.specs.declared.BinOp.TheVariants.{Div, Add, WrapAdd, WrapMul, Lt, Gt}
 use Rattle.area_types.specs.Syntax.{Name, ValueType, Truth, Int, Ix, Stored, Ref, Area, Array}
 use Rattle.area_types.specs.declared.region.Region.TheVariants.{Global, Own}

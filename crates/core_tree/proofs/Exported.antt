@@ -3,8 +3,8 @@ use Rattle.std.proofs.Common.{◌≡◌, ℕ, suc, Bool, true, false, List, [], 
 use Rattle.std.specs.Prelude.{Option, Some, None, All, IsTrue, if◌then◌else◌, filter}
 use Rattle.std.proofs.lemmas.List.{map-append}
 use Rattle.std.proofs.lemmas.List.Elements.{All-head, All-tail}
-use Rattle.iv_script.specs.declared.Plain.{Plain}
-use Rattle.iv_script.specs.declared.Plain.TheVariants as plain
+use Rattle.run_records.specs.declared.Plain.{Plain}
+use Rattle.run_records.specs.declared.Plain.TheVariants as plain
 use Rattle.area_types.specs.Syntax.{Name, ValueType, Truth, Int, Ix, Bits, Ref}
 use Rattle.core_tree.specs.Syntax.{ParamCore, ProcCore}
 use Rattle.core_tree.specs.Types.{is_plain}

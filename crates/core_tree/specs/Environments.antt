@@ -1,8 +1,8 @@
 -- What stands around an expression or a statement of a procedure.
 use Rattle.std.specs.Prelude.{ℕ, suc, ◌+◌, if◌then◌else◌, List, [], ◌∷◌, ◌++◌, map, slice_get, Option}
 use Rattle.std.specs.Option.{option_map, option_and_then}
-use Rattle.iv_script.specs.declared.Plain.{Plain}
-use Rattle.iv_script.specs.declared.Plain.TheVariants as plain
+use Rattle.run_records.specs.declared.Plain.{Plain}
+use Rattle.run_records.specs.declared.Plain.TheVariants as plain
 use Rattle.alloc_effects.specs.declared.allowed.Allowed.{Allowed}
 use Rattle.alloc_effects.specs.declared.allowed.Narrowing.{Narrowing}
 use Rattle.alloc_effects.specs.Permissions.{narrowed, looped}

@@ -1,9 +1,9 @@
 -- What the outside may call in a module: its exported procedures in order, whose parameters and results are bool or integers.
 use Rattle.std.specs.Prelude.{List, [], ◌∷◌, ◌++◌, Bool, true, false, Option, Some, None}
 use Rattle.std.specs.Option.{option_map, option_and_then}
-use Rattle.iv_script.specs.declared.Plain.{Plain}
-use Rattle.iv_script.specs.declared.Plain.TheVariants as plain
-use Rattle.iv_script.specs.declared.Export.{Export}
+use Rattle.run_records.specs.declared.Plain.{Plain}
+use Rattle.run_records.specs.declared.Plain.TheVariants as plain
+use Rattle.run_records.specs.declared.Export.{Export}
 use Rattle.area_types.specs.Syntax.{Name, ValueType, Truth, Int}
 use Rattle.core_tree.specs.Syntax.{ParamCore, ProcCore, ModuleCore}
 

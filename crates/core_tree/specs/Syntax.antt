@@ -2,7 +2,7 @@
 -- imports and procedures in order of declaration, and in a procedure first its parameters and then its other locals in order of text.
 -- Each expression carries its type and its own checks. A chain is nested to the left, and so are the fields and indices after an operand.
 use Rattle.std.specs.Prelude.{ℕ, ℤ, Bool, List, Option}
-use Rattle.iv_script.specs.declared.Plain.{Plain}
+use Rattle.run_records.specs.declared.Plain.{Plain}
 use Rattle.ivory_tree.specs.declared.expr.PrefixOp.{PrefixOp}
 use Rattle.ivory_tree.specs.declared.expr.BinOp.{BinOp}
 use Rattle.area_types.specs.Syntax.{Name, ValueType, Area}

@@ -10,8 +10,8 @@ ghost use Rattle.core_tree.specs.Exports as exports;
 use crate::items::{CoreParam, CoreProc};
 use crate::resolved::Core;
 use area_types::ValueType;
-use iv_script::{Export, Plain};
 use iv_words::{Memory, Seq};
+use run_records::{Export, Plain};
 use std::alloc::Global;
 
 /// The exported procedures in order.

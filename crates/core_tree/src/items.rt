@@ -4,8 +4,8 @@ use crate::check::Check;
 use crate::expr::CoreExpr;
 use crate::stmt::CoreStmt;
 use area_types::{Area, ValueType};
-use iv_script::Plain;
 use iv_words::{Copied, Memory, Seq, Word};
+use run_records::Plain;
 use std::alloc::Global;
 
 /// An area of the module, with the first value of each of its cells.

@@ -2,9 +2,9 @@
 use Rattle.std.proofs.Common.{ℕ, ℤ, Bool, true, false, List, [], ◌∷◌, map, Option, Some, None, sym, subst}
 use Rattle.std.specs.Prelude.{slice_get, IsTrue, if◌then◌else◌, All}
 use Rattle.std.proofs.lemmas.List.Elements.{All-head, All-tail}
-use Rattle.iv_script.specs.declared.Export.{Export}
+use Rattle.run_records.specs.declared.Export.{Export}
 use Rattle.iv_words.specs.Words.{same_word}
-use Rattle.iv_script.specs.Scripts.{export_of, found_fits}
+use Rattle.run_records.specs.Scripts.{export_of, found_fits}
 use Rattle.step_semantics.specs.Control.{Falls}
 use Rattle.step_semantics.specs.Lawful.{Lawful}
 use Rattle.step_semantics.specs.Safe.{AlwaysSafe}

@@ -1,13 +1,13 @@
 -- What a module does, step for step. So far a module has imports without results, and exported procedures without parameters,
 -- whose statements are calls of imports with constants. It has no areas and no names, so a state holds nothing.
 use Rattle.std.specs.Prelude.{ℕ, ℤ, pos, List, [], ◌∷◌, map, Option, Some, None, slice_get, if◌then◌else◌}
-use Rattle.iv_script.specs.declared.Reason.TheVariants.{Dead}
-use Rattle.iv_script.specs.declared.AreaCells.{AreaCells}
-use Rattle.iv_script.specs.declared.Piece.{Piece}
-use Rattle.iv_script.specs.declared.Piece.TheVariants.{Value}
-use Rattle.iv_script.specs.declared.Export.{Export}
-use Rattle.iv_script.specs.declared.Outcome.{Outcome}
-use Rattle.iv_script.specs.declared.Script.{Script}
+use Rattle.run_records.specs.declared.Reason.TheVariants.{Dead}
+use Rattle.run_records.specs.declared.AreaCells.{AreaCells}
+use Rattle.run_records.specs.declared.Piece.{Piece}
+use Rattle.run_records.specs.declared.Piece.TheVariants.{Value}
+use Rattle.run_records.specs.declared.Export.{Export}
+use Rattle.run_records.specs.declared.Outcome.{Outcome}
+use Rattle.run_records.specs.declared.Script.{Script}
 use Rattle.iv_words.specs.Words.{same_word}
 use Rattle.step_semantics.specs.Steps.{NoMeaning, Part, give, halt, bind, tick}
 use Rattle.step_semantics.specs.Control.{Control, Falls, Broke, Returned, also}

@@ -5,7 +5,7 @@ use Rattle.std.specs.Prelude.{if◌then◌else◌, int_le, nat_lt, nat_le}
 use Rattle.std.proofs.lemmas.Int.{ints}
 use Rattle.std.proofs.lemmas.Nat.{pow_pos}
 use Rattle.iv_words.specs.Kinds.{in_range_of}
-use Rattle.iv_script.specs.declared.Reason.TheVariants.{SignedOverflow}
+use Rattle.run_records.specs.declared.Reason.TheVariants.{SignedOverflow}
 use Rattle.c_ast.specs.declared.Arith.{Arith}
 use Rattle.c_ast.specs.declared.Arith.TheVariants.{Int, UInt, Long, ULong, LongLong, ULongLong}
 use Rattle.c_ast.specs.declared.CKind.{CKind}

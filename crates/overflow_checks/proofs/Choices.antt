@@ -1,7 +1,7 @@
 -- What `||` and `&&` give where their operands give truths: the right one counts only where the left one does not decide.
 use Rattle.std.proofs.Common.{◌≡◌, Bool, true, false, Result, Ok, refl, ap, ◌∙◌}
 use Rattle.std.specs.Prelude.{◌||◌, ◌&&◌}
-use Rattle.iv_script.specs.declared.Reason.{Reason}
+use Rattle.run_records.specs.declared.Reason.{Reason}
 use Rattle.c_ast.specs.declared.CBinary.{CBinary}
 use Rattle.c_ast.specs.declared.CBinary.TheVariants.{AndAlso, OrElse}
 use Rattle.c_ast.specs.Syntax.{Expr, Binary}

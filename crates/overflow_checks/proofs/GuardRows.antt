@@ -7,7 +7,7 @@ use Rattle.std.proofs.Math.IntN.{*ℤ_comm}
 use Rattle.std.proofs.lemmas.List.Elements.{All-head}
 use Rattle.iv_words.specs.Kinds.{in_range_of, width, is_signed}
 use Rattle.iv_words.specs.declared.IntKind.{IntKind}
-use Rattle.iv_script.specs.declared.Reason.{Reason}
+use Rattle.run_records.specs.declared.Reason.{Reason}
 use Rattle.iv_words.specs.Bits.{modulo, two_to}
 use Rattle.int_ops.specs.Operators.{is_allowed, is_allowed_at, is_binary, exact, exact_at}
 use Rattle.int_ops.specs.declared.Op.{Op}

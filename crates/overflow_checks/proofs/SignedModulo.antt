@@ -4,7 +4,7 @@ use Rattle.std.specs.Prelude.{nat_eq, nat_lt, int_lt, bit_and, bit_xor, unsigned
 use Rattle.std.proofs.lemmas.Nat.{pow_pos, mod_below, and_le_l, xor_lt}
 use Rattle.std.proofs.Math.Nat.{mod-eq_of_lt}
 use Rattle.iv_words.specs.Kinds.{in_range_of}
-use Rattle.iv_script.specs.declared.Reason.{Reason}
+use Rattle.run_records.specs.declared.Reason.{Reason}
 use Rattle.c_ast.specs.declared.Arith.{Arith}
 use Rattle.c_ast.specs.declared.CKind.{CKind}
 use Rattle.c_ast.specs.declared.CKind.TheVariants.{Arith as Computed}

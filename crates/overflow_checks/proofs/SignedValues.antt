@@ -7,8 +7,8 @@ use Rattle.std.proofs.lemmas.Int.{ints}
 use Rattle.std.proofs.lemmas.Nat.{pow_pos}
 use Rattle.iv_words.specs.Kinds.{in_range_of, in_range, width, is_signed}
 use Rattle.iv_words.specs.declared.IntKind.{IntKind}
-use Rattle.iv_script.specs.declared.Reason.{Reason}
-use Rattle.iv_script.specs.declared.Reason.TheVariants.{DivZero}
+use Rattle.run_records.specs.declared.Reason.{Reason}
+use Rattle.run_records.specs.declared.Reason.TheVariants.{DivZero}
 use Rattle.c_ast.specs.declared.Arith.{Arith}
 use Rattle.c_ast.specs.declared.CKind.{CKind}
 use Rattle.c_ast.specs.declared.CKind.TheVariants.{Arith as Computed}

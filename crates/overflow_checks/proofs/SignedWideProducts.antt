@@ -7,7 +7,7 @@ use Rattle.std.proofs.lemmas.Nat.{xor_lt}
 use Rattle.std.proofs.lemmas.Nat.Bits.{bit_at_xor}
 use Rattle.iv_words.specs.Kinds.{in_range_of, width, is_signed}
 use Rattle.iv_words.specs.declared.IntKind.{IntKind}
-use Rattle.iv_script.specs.declared.Reason.{Reason}
+use Rattle.run_records.specs.declared.Reason.{Reason}
 use Rattle.c_ast.specs.declared.Arith.{Arith}
 use Rattle.c_ast.specs.declared.Arith.TheVariants.{Int}
 use Rattle.c_ast.specs.declared.CScalar.TheVariants.{Int as Exact}

@@ -7,8 +7,8 @@ use Rattle.std.proofs.lemmas.Int.{ints}
 use Rattle.std.proofs.lemmas.Nat.{pow_pos, and_le_l, or_lt, xor_lt}
 use Rattle.std.proofs.Math.Nat.{mod-eq_of_lt}
 use Rattle.iv_words.specs.Kinds.{in_range_of, greatest_of, width, is_signed, kind_at}
-use Rattle.iv_script.specs.declared.Reason.{Reason}
-use Rattle.iv_script.specs.declared.Reason.TheVariants.{SignedOverflow, DivZero, Shift, Implementation}
+use Rattle.run_records.specs.declared.Reason.{Reason}
+use Rattle.run_records.specs.declared.Reason.TheVariants.{SignedOverflow, DivZero, Shift, Implementation}
 use Rattle.iv_words.specs.declared.IntKind.{IntKind}
 use Rattle.int_ops.specs.Operators as exact
 use Rattle.c_ast.specs.declared.Arith.{Arith}

@@ -5,8 +5,8 @@ use Rattle.std.specs.Ordering.{int_eq}
 use Rattle.std.proofs.lemmas.Int.{ints}
 use Rattle.std.proofs.lemmas.Nat.{pow_pos}
 use Rattle.iv_words.specs.Kinds.{in_range_of, width, is_signed, kind_at}
-use Rattle.iv_script.specs.declared.Reason.{Reason}
-use Rattle.iv_script.specs.declared.Reason.TheVariants.{DivZero}
+use Rattle.run_records.specs.declared.Reason.{Reason}
+use Rattle.run_records.specs.declared.Reason.TheVariants.{DivZero}
 use Rattle.iv_words.specs.declared.IntKind.{IntKind}
 use Rattle.c_ast.specs.declared.Arith.{Arith}
 use Rattle.c_ast.specs.declared.CKind.TheVariants.{Arith as Computed}

@@ -1,8 +1,8 @@
 -- What an outcome tells of how the run came out.
 use Rattle.std.proofs.Common.{◌≡◌, ◌≢◌, List, [], ℕ, refl, ap}
-use Rattle.iv_script.specs.declared.AreaCells.{AreaCells}
-use Rattle.iv_script.specs.declared.End.TheVariants.{Ended, Going, Undefined}
-use Rattle.iv_script.specs.declared.Reason.{Reason}
+use Rattle.run_records.specs.declared.AreaCells.{AreaCells}
+use Rattle.run_records.specs.declared.End.TheVariants.{Ended, Going, Undefined}
+use Rattle.run_records.specs.declared.Reason.{Reason}
 use Rattle.step_semantics.specs.Steps.{Halt, FailedCheck, MissingReply, UnfitReply, NoMeaning, Progress, Finished, Halted, Exhausted, world_of}
 use Rattle.step_semantics.specs.Runs.{end_of, outcome}
 

@@ -1,7 +1,7 @@
 -- How parts that follow others are put together: one lemma for each way to make a part.
 use Rattle.std.proofs.Common.{◌≡◌, List, Bool, true, false, ℕ, zero, suc, ◌+◌, ◌-◌, ◌<◌, ◌≤◌, refl, sym, ◌∙◌, ap, subst, arith}
 use Rattle.std.specs.Prelude.{if◌then◌else◌}
-use Rattle.iv_script.specs.declared.AreaCells.{AreaCells}
+use Rattle.run_records.specs.declared.AreaCells.{AreaCells}
 use Rattle.step_semantics.specs.Steps.{World, Halt, FailedCheck, MissingReply, UnfitReply, NoMeaning, Progress, Finished, Halted, Exhausted, Part, halt, after, tick, ticks, left}
 use Rattle.step_semantics.specs.Safe.{Keeps}
 use Rattle.step_semantics.specs.Follows.{Leads, Ends, Owed, EndsAs, Follows}

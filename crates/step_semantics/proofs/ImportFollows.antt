@@ -1,11 +1,11 @@
 -- The same call of an import on both sides, with the same to see of both states.
 use Rattle.std.proofs.Common.{◌≡◌, ℕ, ◌≤◌, ℤ, List, [], ◌∷◌, Bool, true, false, refl, sym, subst}
 use Rattle.std.specs.Prelude.{IsTrue, if◌then◌else◌}
-use Rattle.iv_script.specs.declared.AreaCells.{AreaCells}
-use Rattle.iv_script.specs.declared.Event.TheVariants.{Call}
-use Rattle.iv_script.specs.declared.Piece.{Piece}
-use Rattle.iv_script.specs.declared.Plain.{Plain}
-use Rattle.iv_script.specs.Scripts.{values_fit}
+use Rattle.run_records.specs.declared.AreaCells.{AreaCells}
+use Rattle.run_records.specs.declared.Event.TheVariants.{Call}
+use Rattle.run_records.specs.declared.Piece.{Piece}
+use Rattle.run_records.specs.declared.Plain.{Plain}
+use Rattle.run_records.specs.Scripts.{values_fit}
 use Rattle.step_semantics.specs.Steps.{World, MissingReply, UnfitReply, Part, give, halt, after, with_event}
 use Rattle.step_semantics.specs.Imports.{next_reply, replied, import_call}
 use Rattle.step_semantics.specs.Follows.{Follows}

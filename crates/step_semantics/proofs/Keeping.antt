@@ -1,14 +1,14 @@
 -- Parts that halt only as is allowed: one lemma for each way to make a part.
 use Rattle.std.proofs.Common.{◌≡◌, ℕ, zero, suc, ℤ, List, [], ◌∷◌, Bool, true, false, refl, sym, subst}
 use Rattle.std.specs.Prelude.{IsTrue, if◌then◌else◌}
-use Rattle.iv_script.specs.declared.AreaCells.{AreaCells}
-use Rattle.iv_script.specs.declared.EntryCall.{EntryCall}
-use Rattle.iv_script.specs.declared.Event.TheVariants.{Call, Ret}
-use Rattle.iv_script.specs.declared.Export.{Export}
-use Rattle.iv_script.specs.declared.Piece.{Piece}
-use Rattle.iv_script.specs.declared.Plain.{Plain}
-use Rattle.iv_script.specs.declared.Script.{Script}
-use Rattle.iv_script.specs.Scripts.{values_fit, calls_fit, Fits}
+use Rattle.run_records.specs.declared.AreaCells.{AreaCells}
+use Rattle.run_records.specs.declared.EntryCall.{EntryCall}
+use Rattle.run_records.specs.declared.Event.TheVariants.{Call, Ret}
+use Rattle.run_records.specs.declared.Export.{Export}
+use Rattle.run_records.specs.declared.Piece.{Piece}
+use Rattle.run_records.specs.declared.Plain.{Plain}
+use Rattle.run_records.specs.declared.Script.{Script}
+use Rattle.run_records.specs.Scripts.{values_fit, calls_fit, Fits}
 use Rattle.step_semantics.specs.Steps.{World, Halt, MissingReply, UnfitReply, Progress, Finished, Halted, Exhausted, Part, give, halt, after, tick, ticks, left, with_event}
 use Rattle.step_semantics.specs.Control.{Control, Falls, Broke, Returned, onward, also, again, turns, forever}
 use Rattle.step_semantics.specs.Imports.{next_reply, replied, import_call}

@@ -1,7 +1,7 @@
 -- Each way to make a part of parts keeps the laws.
 use Rattle.std.proofs.Common.{◌≡◌, ℕ, zero, suc, ◌+◌, ◌≤◌, List, Bool, true, false, refl, sym, ap, subst, arith}
 use Rattle.std.specs.Prelude.{if◌then◌else◌}
-use Rattle.iv_script.specs.declared.AreaCells.{AreaCells}
+use Rattle.run_records.specs.declared.AreaCells.{AreaCells}
 use Rattle.step_semantics.specs.Steps.{World, Halt, Progress, Finished, Halted, Exhausted, Part, give, halt, after, bind, tick, ticks, by_state, change, left, block, world_of}
 use Rattle.step_semantics.specs.Lawful.{Prefix, Stays, Lawful}
 use Rattle.step_semantics.proofs.Prefixes.{prefix_refl, prefix_trans}

@@ -1,6 +1,6 @@
 -- When one list of events begins another.
 use Rattle.std.proofs.Common.{◌≡◌, List, [], ◌∷◌, ◌++◌, refl, sym, ◌∙◌, ap, append_assoc, append-nil}
-use Rattle.iv_script.specs.declared.Event.{Event}
+use Rattle.run_records.specs.declared.Event.{Event}
 use Rattle.step_semantics.specs.Steps.{World, with_event}
 use Rattle.step_semantics.specs.Lawful.{Prefix}
 

@@ -2,13 +2,13 @@
 use Rattle.std.proofs.Common.{◌≡◌, ℕ, Bool, List, [], ◌∷◌, sym, subst}
 use Rattle.std.specs.Prelude.{IsTrue}
 use Rattle.std.proofs.lemmas.Bool.{and_parts}
-use Rattle.iv_script.specs.declared.AreaCells.{AreaCells}
-use Rattle.iv_script.specs.declared.EntryCall.{EntryCall}
-use Rattle.iv_script.specs.declared.Event.TheVariants.{Ret}
-use Rattle.iv_script.specs.declared.Export.{Export}
-use Rattle.iv_script.specs.declared.Outcome.{Outcome}
-use Rattle.iv_script.specs.declared.Script.{Script}
-use Rattle.iv_script.specs.Scripts.{calls_fit, Fits}
+use Rattle.run_records.specs.declared.AreaCells.{AreaCells}
+use Rattle.run_records.specs.declared.EntryCall.{EntryCall}
+use Rattle.run_records.specs.declared.Event.TheVariants.{Ret}
+use Rattle.run_records.specs.declared.Export.{Export}
+use Rattle.run_records.specs.declared.Outcome.{Outcome}
+use Rattle.run_records.specs.declared.Script.{Script}
+use Rattle.run_records.specs.Scripts.{calls_fit, Fits}
 use Rattle.step_semantics.specs.Steps.{World, tick, with_event}
 use Rattle.step_semantics.specs.Runs.{Body, returned, entry_calls, start, run}
 use Rattle.step_semantics.specs.Lawful.{Lawful}

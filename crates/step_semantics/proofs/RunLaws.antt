@@ -1,15 +1,15 @@
 -- Calls of imports and whole runs keep the laws, and so do the outcomes of a run.
 use Rattle.std.proofs.Common.{◌≡◌, ◌≢◌, ℕ, ◌+◌, ◌-◌, ℤ, List, [], ◌∷◌, Option, refl, sym, ◌∙◌, ap, subst, arith}
-use Rattle.iv_script.specs.declared.AreaCells.{AreaCells}
-use Rattle.iv_script.specs.declared.End.TheVariants.{Going}
-use Rattle.iv_script.specs.declared.EntryCall.{EntryCall}
-use Rattle.iv_script.specs.declared.Event.{Event}
-use Rattle.iv_script.specs.declared.Event.TheVariants.{Call, Ret}
-use Rattle.iv_script.specs.declared.Outcome.{Outcome}
-use Rattle.iv_script.specs.declared.Piece.{Piece}
-use Rattle.iv_script.specs.declared.Plain.{Plain}
-use Rattle.iv_script.specs.declared.Script.{Script}
-use Rattle.iv_script.specs.Scripts.{values_fit}
+use Rattle.run_records.specs.declared.AreaCells.{AreaCells}
+use Rattle.run_records.specs.declared.End.TheVariants.{Going}
+use Rattle.run_records.specs.declared.EntryCall.{EntryCall}
+use Rattle.run_records.specs.declared.Event.{Event}
+use Rattle.run_records.specs.declared.Event.TheVariants.{Call, Ret}
+use Rattle.run_records.specs.declared.Outcome.{Outcome}
+use Rattle.run_records.specs.declared.Piece.{Piece}
+use Rattle.run_records.specs.declared.Plain.{Plain}
+use Rattle.run_records.specs.declared.Script.{Script}
+use Rattle.run_records.specs.Scripts.{values_fit}
 use Rattle.step_semantics.specs.Steps.{World, UnfitReply, Progress, Finished, Halted, Exhausted, Part, give, halt, tick, world_of, with_event}
 use Rattle.step_semantics.specs.Imports.{checked, next_reply, replied, import_call}
 use Rattle.step_semantics.specs.Runs.{Body, returned, entry_calls, outcome, start, run}

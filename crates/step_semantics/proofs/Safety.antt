@@ -1,14 +1,14 @@
 -- Parts that never lack a meaning, and runs of them.
 use Rattle.std.proofs.Common.{ℕ, List, [], ◌∷◌, Bool, true, false}
 use Rattle.std.specs.Prelude.{if◌then◌else◌}
-use Rattle.iv_script.specs.declared.AreaCells.{AreaCells}
-use Rattle.iv_script.specs.declared.EntryCall.{EntryCall}
-use Rattle.iv_script.specs.declared.Event.TheVariants.{Ret}
-use Rattle.iv_script.specs.declared.Export.{Export}
-use Rattle.iv_script.specs.declared.Piece.{Piece}
-use Rattle.iv_script.specs.declared.Plain.{Plain}
-use Rattle.iv_script.specs.declared.Script.{Script}
-use Rattle.iv_script.specs.Scripts.{Fits}
+use Rattle.run_records.specs.declared.AreaCells.{AreaCells}
+use Rattle.run_records.specs.declared.EntryCall.{EntryCall}
+use Rattle.run_records.specs.declared.Event.TheVariants.{Ret}
+use Rattle.run_records.specs.declared.Export.{Export}
+use Rattle.run_records.specs.declared.Piece.{Piece}
+use Rattle.run_records.specs.declared.Plain.{Plain}
+use Rattle.run_records.specs.declared.Script.{Script}
+use Rattle.run_records.specs.Scripts.{Fits}
 use Rattle.step_semantics.specs.Steps.{World, Halt, NoMeaning, Part, give, halt, bind, tick, ticks, by_state, change, block, with_event}
 use Rattle.step_semantics.specs.Control.{Control, also, forever}
 use Rattle.step_semantics.specs.Imports.{import_call}

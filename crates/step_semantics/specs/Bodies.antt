@@ -1,8 +1,8 @@
 -- What is asked of two modules' procedures so that the runs of each script go alike.
 use Rattle.std.specs.Prelude.{◌≡◌, ℕ, ℤ, Bool, List, Option, IsTrue}
-use Rattle.iv_script.specs.declared.EntryCall.{EntryCall}
-use Rattle.iv_script.specs.declared.Export.{Export}
-use Rattle.iv_script.specs.Scripts.{export_of, found_fits}
+use Rattle.run_records.specs.declared.EntryCall.{EntryCall}
+use Rattle.run_records.specs.declared.Export.{Export}
+use Rattle.run_records.specs.Scripts.{export_of, found_fits}
 use Rattle.step_semantics.specs.Steps.{World}
 use Rattle.step_semantics.specs.Runs.{Body}
 use Rattle.step_semantics.specs.Follows.{Follows}

@@ -1,7 +1,7 @@
 -- One part follows another: it comes out alike, for as many steps as the other took or more, and for at most sixteen times as
 -- many. A credit of steps that the second may take beyond that is carried from part to part.
 use Rattle.std.specs.Prelude.{◌≡◌, List, ℕ, ◌+◌, ◌*◌, ◌≤◌, Bool, true, false}
-use Rattle.iv_script.specs.declared.AreaCells.{AreaCells}
+use Rattle.run_records.specs.declared.AreaCells.{AreaCells}
 use Rattle.step_semantics.specs.Steps.{World, Halt, FailedCheck, MissingReply, UnfitReply, NoMeaning, Progress, Finished, Halted, Exhausted}
 
 -- While the first goes from n steps left to m, f goes to g: for each number of steps that g is given there is one for f. Each

@@ -1,10 +1,10 @@
 -- The call of an import, the same act in the source and in C: the outside sees the call, and then replies.
 use Rattle.std.specs.Prelude.{ℕ, ℤ, List, [], ◌∷◌, if◌then◌else◌}
-use Rattle.iv_script.specs.declared.AreaCells.{AreaCells}
-use Rattle.iv_script.specs.declared.Event.TheVariants.{Call}
-use Rattle.iv_script.specs.declared.Piece.{Piece}
-use Rattle.iv_script.specs.declared.Plain.{Plain}
-use Rattle.iv_script.specs.Scripts.{values_fit}
+use Rattle.run_records.specs.declared.AreaCells.{AreaCells}
+use Rattle.run_records.specs.declared.Event.TheVariants.{Call}
+use Rattle.run_records.specs.declared.Piece.{Piece}
+use Rattle.run_records.specs.declared.Plain.{Plain}
+use Rattle.run_records.specs.Scripts.{values_fit}
 use Rattle.step_semantics.specs.Steps.{MissingReply, UnfitReply, Halted, Part, give, halt, with_event}
 
 -- a reply must have a value for each type of the shape, in it

@@ -1,6 +1,6 @@
 -- The laws of a part: events only grow, and more steps change nothing but that a run goes further.
 use Rattle.std.specs.Prelude.{◌≡◌, ℕ, ◌+◌, ◌≤◌, List, ◌++◌}
-use Rattle.iv_script.specs.declared.Event.{Event}
+use Rattle.run_records.specs.declared.Event.{Event}
 use Rattle.step_semantics.specs.Steps.{World, Progress, Finished, Halted, Exhausted, Part, world_of}
 
 -- the first list begins the second

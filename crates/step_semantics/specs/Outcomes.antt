@@ -1,7 +1,7 @@
 -- The laws of the outcomes of one run, as a function of its steps: so there is one outcome for each number of steps.
 use Rattle.std.specs.Prelude.{◌≡◌, ◌≢◌, ℕ, ◌≤◌}
-use Rattle.iv_script.specs.declared.End.TheVariants.{Going}
-use Rattle.iv_script.specs.declared.Outcome.{Outcome}
+use Rattle.run_records.specs.declared.End.TheVariants.{Going}
+use Rattle.run_records.specs.declared.Outcome.{Outcome}
 use Rattle.step_semantics.specs.Lawful.{Prefix}
 
 -- with more steps the events go on

@@ -1,8 +1,8 @@
 -- Two runs go alike, where the second has sixteen times the steps and sixteen more: each is ahead of the other by no event,
 -- both end alike, and the second always has a meaning.
 use Rattle.std.specs.Prelude.{◌≡◌, ◌≢◌, ℕ, ◌+◌, ◌*◌, ◌≤◌}
-use Rattle.iv_script.specs.declared.End.TheVariants.{Going}
-use Rattle.iv_script.specs.declared.Outcome.{Outcome}
+use Rattle.run_records.specs.declared.End.TheVariants.{Going}
+use Rattle.run_records.specs.declared.Outcome.{Outcome}
 use Rattle.step_semantics.specs.Lawful.{Prefix}
 use Rattle.step_semantics.specs.Safe.{NeverUndefined}
 

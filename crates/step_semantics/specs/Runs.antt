@@ -1,12 +1,12 @@
 -- Whole runs: the entry calls of a script, in order, and what the outside sees of them.
 use Rattle.std.specs.Prelude.{ℕ, ℤ, List, [], ◌∷◌, map, Option}
-use Rattle.iv_script.specs.declared.AreaCells.{AreaCells}
-use Rattle.iv_script.specs.declared.End.{End}
-use Rattle.iv_script.specs.declared.End.TheVariants.{Ended, Stopped, NoReply, BadReply, Going, Undefined}
-use Rattle.iv_script.specs.declared.EntryCall.{EntryCall}
-use Rattle.iv_script.specs.declared.Event.TheVariants.{Ret}
-use Rattle.iv_script.specs.declared.Outcome.{Outcome}
-use Rattle.iv_script.specs.declared.Script.{Script}
+use Rattle.run_records.specs.declared.AreaCells.{AreaCells}
+use Rattle.run_records.specs.declared.End.{End}
+use Rattle.run_records.specs.declared.End.TheVariants.{Ended, Stopped, NoReply, BadReply, Going, Undefined}
+use Rattle.run_records.specs.declared.EntryCall.{EntryCall}
+use Rattle.run_records.specs.declared.Event.TheVariants.{Ret}
+use Rattle.run_records.specs.declared.Outcome.{Outcome}
+use Rattle.run_records.specs.declared.Script.{Script}
 use Rattle.step_semantics.specs.Steps.{World, Halt, FailedCheck, MissingReply, UnfitReply, NoMeaning, Progress, Finished, Halted, Exhausted, Part, give, bind, tick, with_event}
 
 -- what an exported procedure does where the outside calls it, up to its result, if it has one

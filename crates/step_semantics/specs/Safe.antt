@@ -1,9 +1,9 @@
 -- Parts that halt only so far as is allowed, with what is known where they finish; above all, parts that never lack a
 -- defined meaning.
 use Rattle.std.specs.Prelude.{◌≢◌, ℕ, Bool, IsTrue}
-use Rattle.iv_script.specs.declared.End.TheVariants.{Stopped, Undefined}
-use Rattle.iv_script.specs.declared.Outcome.{Outcome}
-use Rattle.iv_script.specs.declared.Reason.{Reason}
+use Rattle.run_records.specs.declared.End.TheVariants.{Stopped, Undefined}
+use Rattle.run_records.specs.declared.Outcome.{Outcome}
+use Rattle.run_records.specs.declared.Reason.{Reason}
 use Rattle.step_semantics.specs.Steps.{World, Halt, FailedCheck, MissingReply, UnfitReply, NoMeaning, Progress, Finished, Halted, Exhausted, Part}
 
 abbrev pub HasMeaning : Halt → Type 0

@@ -2,9 +2,9 @@
 -- where it needs more. Its meaning for every number of steps is its meaning (Owens, Myreen, Kumar and Tan, "Functional
 -- Big-Step Semantics", 2016).
 use Rattle.std.specs.Prelude.{ℕ, zero, suc, ℤ, List, [], ◌∷◌, ◌++◌}
-use Rattle.iv_script.specs.declared.Event.{Event}
-use Rattle.iv_script.specs.declared.Reason.{Reason}
-use Rattle.iv_script.specs.declared.AreaCells.{AreaCells}
+use Rattle.run_records.specs.declared.Event.{Event}
+use Rattle.run_records.specs.declared.Reason.{Reason}
+use Rattle.run_records.specs.declared.AreaCells.{AreaCells}
 
 -- the outside of a run: the events so far, and the replies that imports have not taken yet
 pub record World : Type 0 where

@@ -1,9 +1,9 @@
 ghost use Rattle.std.specs.Prelude.{◌≡◌, ◌≢◌, ℕ, ℤ, List, [], ◌∷◌, ◌++◌, true, false};
-ghost use Rattle.iv_script.specs.declared.AreaCells.{AreaCells};
-ghost use Rattle.iv_script.specs.declared.Event.TheVariants.{Call};
-ghost use Rattle.iv_script.specs.declared.Piece.{Piece};
-ghost use Rattle.iv_script.specs.declared.Plain.{Plain};
-ghost use Rattle.iv_script.specs.Scripts.{values_fit};
+ghost use Rattle.run_records.specs.declared.AreaCells.{AreaCells};
+ghost use Rattle.run_records.specs.declared.Event.TheVariants.{Call};
+ghost use Rattle.run_records.specs.declared.Piece.{Piece};
+ghost use Rattle.run_records.specs.declared.Plain.{Plain};
+ghost use Rattle.run_records.specs.Scripts.{values_fit};
 ghost use Rattle.step_semantics.specs.Steps.{Finished, Halted, MissingReply, Part, UnfitReply, World, with_event, world_of};
 ghost use Rattle.step_semantics.specs.Imports.{import_call};
 

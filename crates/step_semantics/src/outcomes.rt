@@ -1,7 +1,7 @@
 ghost use Rattle.std.specs.Prelude.{◌≡◌, ℕ, List, []};
-ghost use Rattle.iv_script.specs.declared.AreaCells.{AreaCells};
-ghost use Rattle.iv_script.specs.declared.End.TheVariants.{Ended, Going, Undefined};
-ghost use Rattle.iv_script.specs.declared.Reason.{Reason};
+ghost use Rattle.run_records.specs.declared.AreaCells.{AreaCells};
+ghost use Rattle.run_records.specs.declared.End.TheVariants.{Ended, Going, Undefined};
+ghost use Rattle.run_records.specs.declared.Reason.{Reason};
 ghost use Rattle.step_semantics.specs.Steps.{Exhausted, Finished, Halt, Progress, world_of};
 ghost use Rattle.step_semantics.specs.Runs.{end_of, outcome};
 

@@ -1,8 +1,8 @@
 ghost use Rattle.std.specs.Prelude.{ℕ, List};
-ghost use Rattle.iv_script.specs.declared.AreaCells.{AreaCells};
-ghost use Rattle.iv_script.specs.declared.EntryCall.{EntryCall};
-ghost use Rattle.iv_script.specs.declared.Outcome.{Outcome};
-ghost use Rattle.iv_script.specs.declared.Script.{Script};
+ghost use Rattle.run_records.specs.declared.AreaCells.{AreaCells};
+ghost use Rattle.run_records.specs.declared.EntryCall.{EntryCall};
+ghost use Rattle.run_records.specs.declared.Outcome.{Outcome};
+ghost use Rattle.run_records.specs.declared.Script.{Script};
 ghost use Rattle.step_semantics.specs.Runs.{Body, run};
 ghost use Rattle.step_semantics.specs.Outcomes.{OutcomeLaws};
 ghost use Rattle.step_semantics.specs.Safe.{AlwaysSafe, NeverUndefined};

@@ -1,9 +1,9 @@
 ghost use Rattle.std.specs.Prelude.{◌≡◌, ℕ, suc, ◌++◌, ℤ, List, [], ◌∷◌, Option};
-ghost use Rattle.iv_script.specs.declared.AreaCells.{AreaCells};
-ghost use Rattle.iv_script.specs.declared.EntryCall.{EntryCall};
-ghost use Rattle.iv_script.specs.declared.End.TheVariants.{Ended};
-ghost use Rattle.iv_script.specs.declared.Event.TheVariants.{Ret};
-ghost use Rattle.iv_script.specs.declared.Script.{Script};
+ghost use Rattle.run_records.specs.declared.AreaCells.{AreaCells};
+ghost use Rattle.run_records.specs.declared.EntryCall.{EntryCall};
+ghost use Rattle.run_records.specs.declared.End.TheVariants.{Ended};
+ghost use Rattle.run_records.specs.declared.Event.TheVariants.{Ret};
+ghost use Rattle.run_records.specs.declared.Script.{Script};
 ghost use Rattle.step_semantics.specs.Steps.{Exhausted, Finished, World, with_event};
 ghost use Rattle.step_semantics.specs.Runs.{Body, entry_calls, run};
 ghost use Rattle.step_semantics.specs.Lawful.{Lawful};

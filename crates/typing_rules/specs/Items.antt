@@ -1,8 +1,8 @@
 -- Which items stand after earlier ones, and their cores.
 use Rattle.std.specs.Prelude.{◌≡◌, ℕ, ℤ, Bool, true, false, ◌&&◌, not, List, [], ◌∷◌, ◌++◌, length, map, Option, Some, None, is_some, IsTrue, Ok}
 use Rattle.std.specs.List.{list_all}
-use Rattle.iv_script.specs.declared.Plain.{Plain}
-use Rattle.iv_script.specs.declared.Plain.TheVariants as plain
+use Rattle.run_records.specs.declared.Plain.{Plain}
+use Rattle.run_records.specs.declared.Plain.TheVariants as plain
 use Rattle.ivory_tree.specs.Syntax.{Word, TypeSyntax, InitSyntax, FieldSyntax, StructSyntax, GlobalSyntax, ParamSyntax, HeaderSyntax, ContractSyntax, ProcSyntax}
 use Rattle.ivory_tree.specs.declared.items.BitField.{BitField}
 use Rattle.ivory_tree.specs.declared.items.BitsItem.{BitsItem}

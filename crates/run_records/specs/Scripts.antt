@@ -2,11 +2,11 @@
 use Rattle.std.specs.Prelude.{ℕ, ℤ, pos, Bool, true, false, ◌&&◌, if◌then◌else◌, int_le, List, [], ◌∷◌, Option, Some, None, IsTrue}
 use Rattle.iv_words.specs.Words.{same_word}
 use Rattle.iv_words.specs.Kinds.{in_range}
-use Rattle.iv_script.specs.declared.script.Plain.{Plain}
-use Rattle.iv_script.specs.declared.script.Plain.TheVariants.{Truth, Int}
-use Rattle.iv_script.specs.declared.script.Export.{Export}
-use Rattle.iv_script.specs.declared.script.EntryCall.{EntryCall}
-use Rattle.iv_script.specs.declared.script.Script.{Script}
+use Rattle.run_records.specs.declared.records.Plain.{Plain}
+use Rattle.run_records.specs.declared.records.Plain.TheVariants.{Truth, Int}
+use Rattle.run_records.specs.declared.records.Export.{Export}
+use Rattle.run_records.specs.declared.records.EntryCall.{EntryCall}
+use Rattle.run_records.specs.declared.records.Script.{Script}
 
 -- a truth is 0 or 1
 abbrev pub plain_fits : Plain → ℤ → Bool

@@ -2,8 +2,8 @@
 //! both languages speak of.
 #![tactic(auto)]
 
-mod script;
+mod records;
 
-pub use script::{
+pub use records::{
     AreaCells, End, EntryCall, Event, Export, Outcome, Piece, Plain, Reason, Reply, Script,
 };

@@ -1,0 +1,4 @@
+pub mod ScriptText
+pub mod Answers
+pub mod Fit
+pub mod Report

@@ -1,0 +1,4 @@
+pub mod Cuts
+pub mod Fitting
+pub mod Lines
+pub mod Reading

@@ -1,4 +1,5 @@
 pub mod ScriptText
 pub mod Answers
+pub mod Cuts
 pub mod Fit
 pub mod Report

@@ -1,6 +1,6 @@
 -- What the text of a script says, line by line: the entry calls that the outside makes, and the replies that imports get.
 -- A script is at fault at the first line that says neither of them and is no comment.
-use Rattle.std.specs.Prelude.{ℕ, ◌+◌, ◌^◌, Bool, true, false, if◌then◌else◌, ◌||◌, nat_eq, nat_lt, List, [], ◌∷◌, length, codes, ℤ, Option, Some, None, Result, Ok, Err}
+use Rattle.std.specs.Prelude.{ℕ, ◌+◌, ◌^◌, Bool, true, false, if◌then◌else◌, ◌||◌, nat_eq, List, [], ◌∷◌, codes, ℤ, Option, Some, None, Result, Ok, Err}
 use Rattle.std.specs.List.{filter, slice_split}
 use Rattle.std.specs.Str.Lines.{strip_carriage_return}
 use Rattle.iv_words.specs.Words.{same_word}
@@ -30,7 +30,8 @@ abbrev pub lines : List ℕ → List (List ℕ)
 lines text = slice_split is_line_end text
 
 abbrev pub has_bytes : List ℕ → Bool
-has_bytes word = nat_lt 0 (length word)
+has_bytes [] = false
+has_bytes (b ∷ bs) = true
 
 -- runs of bytes other than blanks
 abbrev pub words : List ℕ → List (List ℕ)
@@ -52,14 +53,18 @@ abbrev pub numbers : List (List ℕ) → Option (List ℤ)
 numbers [] = Some []
 numbers (word ∷ more) = with_first (number_of word) (numbers more)
 
-abbrev pub with_values : (List ℤ → Line) → Option (List ℤ) → Result Line ScriptWhy
-with_values line None = Err BadNumber
-with_values line (Some values) = Ok (line values)
+abbrev pub numbers_said : Option (List ℤ) → Result (List ℤ) ScriptWhy
+numbers_said None = Err BadNumber
+numbers_said (Some values) = Ok values
+
+abbrev pub with_values : (List ℤ → Line) → Result (List ℤ) ScriptWhy → Result Line ScriptWhy
+with_values line (Err why) = Err why
+with_values line (Ok values) = Ok (line values)
 
 -- what follows `call`: the name of a procedure and its arguments
 abbrev pub call_said : List (List ℕ) → Result Line ScriptWhy
 call_said [] = Err BadWord
-call_said (name ∷ values) = with_values (Call name) (numbers values)
+call_said (name ∷ values) = with_values (Call name) (numbers_said (numbers values))
 
 -- byte 35 is `#`
 abbrev pub is_comment : List ℕ → Bool
@@ -72,7 +77,7 @@ line_said [] = Ok Nothing
 line_said (first ∷ more) =
     if is_comment first then Ok Nothing
     else (if same_word first (codes "call") then call_said more
-    else (if same_word first (codes "reply") then with_values Reply (numbers more)
+    else (if same_word first (codes "reply") then with_values Reply (numbers_said (numbers more))
     else Err BadWord))
 
 -- ---- what a text says

@@ -2,3 +2,4 @@ pub mod Cuts
 pub mod Fitting
 pub mod Lines
 pub mod Reading
+pub mod Rows

@@ -3,3 +3,4 @@ pub mod Answers
 pub mod Cuts
 pub mod Fit
 pub mod Report
+pub mod Examples

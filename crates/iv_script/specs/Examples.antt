@@ -1,5 +1,5 @@
 -- Small texts of scripts and what they say, calls that fit an export or do not, and small reports.
-use Rattle.std.specs.Prelude.{◌≡◌, ℕ, ℤ, pos, negsuc, List, [], ◌∷◌, ◌++◌, codes, Option, Some, None, Result, Ok, Err}
+use Rattle.std.specs.Prelude.{◌≡◌, ℕ, ℤ, pos, negsuc, List, [], ◌∷◌, ◌++◌, codes, None, Ok, Err}
 use Rattle.iv_words.specs.declared.IntKind.TheVariants.{U8}
 use Rattle.run_records.specs.declared.Script.{Script}
 use Rattle.run_records.specs.declared.Export.{Export}
@@ -10,7 +10,6 @@ use Rattle.run_records.specs.declared.Event.TheVariants as event
 use Rattle.run_records.specs.declared.End.{End}
 use Rattle.run_records.specs.declared.End.TheVariants as end
 use Rattle.run_records.specs.declared.Reason.TheVariants.{Dead}
-use Rattle.iv_script.specs.declared.fault.ScriptFault.{ScriptFault}
 use Rattle.iv_script.specs.declared.fault.ScriptWhy.TheVariants.{BadWord, BadNumber, NoSuchName, BadCount, OutOfRange}
 use Rattle.iv_script.specs.ScriptText.{script_of}
 use Rattle.iv_script.specs.Fit.{fit_of}

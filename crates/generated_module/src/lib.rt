@@ -1,0 +1,8 @@
+//! The text of a module of any number of procedures, to try the compiler on long texts.
+#![tactic(auto)]
+
+#[cfg(test)]
+mod tests;
+mod text;
+
+pub use text::generate;

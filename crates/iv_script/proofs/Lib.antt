@@ -1,0 +1,5 @@
+pub mod Cuts
+pub mod Fitting
+pub mod Lines
+pub mod Reading
+pub mod Rows

@@ -173,7 +173,7 @@ pub record UnderClean (context : Context) (t : ValueType) (e : ExprSyntax) : Typ
   pub alone : settled e ≡ true → first_of (expr_row context Nothing e) ≡ None
 
 -- the row of an expression with another name of what is wanted
-row_at : (context : Context) (e : ExprSyntax) (v : Want) {w : Want} → v ≡ w → first_of (expr_row context w e) ≡ None → first_of (expr_row context v e) ≡ None
+pub row_at : (context : Context) (e : ExprSyntax) (v : Want) {w : Want} → v ≡ w → first_of (expr_row context w e) ≡ None → first_of (expr_row context v e) ≡ None
 row_at context e v q h = ap (λ x. first_of (expr_row context x e)) q ∙ h
 
 -- a node with no, one, two or three expressions in it

@@ -37,7 +37,7 @@ use Rattle.typing_rules.proofs.Clean.{clean, clean_under}
 some_same : {A : Type 0} {x y : A} → Some x ≡ Some y → x ≡ y
 some_same h = cc
 
-region_at_fits : (regions : ℕ → Region) (j : ℕ) (wanted given r : Region) → given ≡ under regions wanted → region_at j wanted given ≡ Some r → regions j ≡ r
+pub region_at_fits : (regions : ℕ → Region) (j : ℕ) (wanted given r : Region) → given ≡ under regions wanted → region_at j wanted given ≡ Some r → regions j ≡ r
 region_at_fits regions j Global given r f h = let no : ⊥ = cc in absurd no
 region_at_fits regions j Own given r f h = let no : ⊥ = cc in absurd no
 region_at_fits regions j (Param k) given r f h = go (k == j) refl h
@@ -125,7 +125,7 @@ same_length (reference_arg r h g f fit) = ap suc (same_length fit)
 
 -- ---- calls
 
-callee_there : (name : Word) (callees : List Callee) (c : Callee) → find (λ (x : Callee). same_word x.name name) callees ≡ Some c → list_any (λ (x : Callee). same_word x.name name) callees ≡ true
+pub callee_there : (name : Word) (callees : List Callee) (c : Callee) → find (λ (x : Callee). same_word x.name name) callees ≡ Some c → list_any (λ (x : Callee). same_word x.name name) callees ≡ true
 callee_there name [] c h = let no : ⊥ = cc in absurd no
 callee_there name (x ∷ callees) c h = go (callee_there name callees c) (same_word x.name name) refl h
   where

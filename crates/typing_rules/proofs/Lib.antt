@@ -1,6 +1,14 @@
+pub mod Lookups
 pub mod Examples
+pub mod Picked
 pub mod TypesAgree
 pub mod Quiet
+pub mod QuietNodes
 pub mod Clean
 pub mod CleanCalls
-pub mod Picked
+pub mod CleanAreas
+pub mod CleanInits
+pub mod Callees
+pub mod CleanStatements
+pub mod CleanItems
+pub mod CleanModules

@@ -225,11 +225,11 @@ params_agree {env = env} (item.more_params {p = p} {params = params} {t = t} {ts
     ∙ ap (λ x. rows.with_params x params) (local_added e p.name.text t)
     ∙ ap (λ o. rows.with_params (faults.with_local (context_of e) p.name.text o) params) (sym (ap (λ x. type_in x e.regions p.ty) h ∙ ap (λ x. type_in env.earlier x p.ty) k ∙ names.exists))
 
-record Kept (env : Env) (e : Env) : Type 0 where
-  earlier : e.earlier ≡ env.earlier
-  result : e.result ≡ env.result
+pub record Kept (env : Env) (e : Env) : Type 0 where
+  pub earlier : e.earlier ≡ env.earlier
+  pub result : e.result ≡ env.result
 
-params_keep : (env : Env) (params : List ParamSyntax) (ts : List ValueType) → Kept env (with_params env params ts)
+pub params_keep : (env : Env) (params : List ParamSyntax) (ts : List ValueType) → Kept env (with_params env params ts)
 params_keep env [] ts = record { earlier = refl; result = refl }
 params_keep env (p ∷ params) [] = record { earlier = refl; result = refl }
 params_keep env (p ∷ params) (t ∷ ts) = let k = params_keep (with_local env p.name.text t) params ts in record { earlier = k.earlier; result = k.result }

@@ -12,3 +12,8 @@ pub mod Callees
 pub mod CleanStatements
 pub mod CleanItems
 pub mod CleanModules
+pub mod Relabelled
+pub mod Ranks
+pub mod Cores
+pub mod StatementCores
+pub mod OneCore

@@ -1,5 +1,5 @@
 -- What relates the two definitions, which are written apart: a module of the form that texts have is not both well typed and faulty.
--- That it is one of both, and stands for one core at most, is stated here and not proved yet.
+-- It stands for one core at most. That it is one of both is stated here and not proved yet.
 use Rattle.std.specs.Prelude.{◌≡◌, ◌⊎◌, ℕ}
 use Rattle.iv_words.specs.declared.Span.{Span}
 use Rattle.ivory_tree.specs.Syntax.{ModuleSyntax}

@@ -4,7 +4,7 @@ ghost use Rattle.typing_rules.specs.Examples as example;
 ghost use Rattle.typing_rules.specs.Picked.{PickedStands};
 ghost use Rattle.typing_rules.specs.TypesAgree.{SettledAgree, WantedAgree};
 ghost use Rattle.typing_rules.specs.Clean.{SettledIsClean, WantedIsClean, CallIsClean};
-ghost use Rattle.typing_rules.specs.Laws.{StandingIsFaultless, NotBoth};
+ghost use Rattle.typing_rules.specs.Laws.{StandingIsFaultless, NotBoth, OneCore};
 
 /// The module stands for its core, and the prefixes of a chain are told from chains of their own.
 #[tactic(auto, using(crate::proofs::Examples::examples))]
@@ -58,4 +58,9 @@ pub fn typed_calls_are_clean()
 pub fn typed_modules_are_clean()
     ensures faultless { StandingIsFaultless }
     ensures not_both { NotBoth }
+{}
+
+/// A module stands for one core at most.
+pub fn modules_have_one_core()
+    ensures { OneCore }
 {}

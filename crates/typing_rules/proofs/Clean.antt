@@ -65,24 +65,24 @@ word_bits earlier (types.Ref c r a) w h = let no : ⊥ = cc in absurd no
 operand_or : (context : Context) (t : ValueType) (e : ExprSyntax) → Want
 operand_or context t e = cond (settled e) Nothing (Wants t)
 
-beside_settled : (context : Context) (want : Want) (op : BinOp) (x y : ExprSyntax) → is_logic op ≡ false → settled x ≡ true → beside context want op x y ≡ Nothing
+pub beside_settled : (context : Context) (want : Want) (op : BinOp) (x y : ExprSyntax) → is_logic op ≡ false → settled x ≡ true → beside context want op x y ≡ Nothing
 beside_settled context want op x y l h = go (is_comparison op) refl
   where
     go : (b : Bool) → is_comparison op ≡ b → beside context want op x y ≡ Nothing
     go true e = rw (l, e, h) refl
     go false e = rw (l, e, h) refl
 
-beside_other : (context : Context) (want : Want) (op : BinOp) (x y : ExprSyntax) (t : ValueType) → is_logic op ≡ false → settled y ≡ true → own_type context y ≡ Some t → beside context want op x y ≡ cond (settled x) Nothing (Wants t)
+pub beside_other : (context : Context) (want : Want) (op : BinOp) (x y : ExprSyntax) (t : ValueType) → is_logic op ≡ false → settled y ≡ true → own_type context y ≡ Some t → beside context want op x y ≡ cond (settled x) Nothing (Wants t)
 beside_other context want op x y t l h g = go (is_comparison op) refl
   where
     go : (b : Bool) → is_comparison op ≡ b → beside context want op x y ≡ cond (settled x) Nothing (Wants t)
     go true e = rw (l, e, h, g) refl
     go false e = rw (l, e, h, g) refl
 
-beside_logic : (context : Context) (want : Want) (op : BinOp) (x y : ExprSyntax) → is_logic op ≡ true → beside context want op x y ≡ Wants types.Truth
+pub beside_logic : (context : Context) (want : Want) (op : BinOp) (x y : ExprSyntax) → is_logic op ≡ true → beside context want op x y ≡ Wants types.Truth
 beside_logic context want op x y l = rw l refl
 
-not_logic : (op : BinOp) → gives_truth op ≡ false → (is_logic op ≡ false) × (is_comparison op ≡ false)
+pub not_logic : (op : BinOp) → gives_truth op ≡ false → (is_logic op ≡ false) × (is_comparison op ≡ false)
 not_logic op h = go (is_logic op) (is_comparison op) refl refl h
   where
     go : (a b : Bool) → is_logic op ≡ a → is_comparison op ≡ b → a || b ≡ false → (is_logic op ≡ false) × (is_comparison op ≡ false)
@@ -90,7 +90,7 @@ not_logic op h = go (is_logic op) (is_comparison op) refl refl h
     go true b e f g = let no : ⊥ = cc in absurd no
     go false true e f g = let no : ⊥ = cc in absurd no
 
-beside_whole : (context : Context) (op : BinOp) (x y : ExprSyntax) (t : ValueType) → gives_truth op ≡ false → settled x ≡ false → settled y ≡ false → beside context (Wants t) op x y ≡ Wants t
+pub beside_whole : (context : Context) (op : BinOp) (x y : ExprSyntax) (t : ValueType) → gives_truth op ≡ false → settled x ≡ false → settled y ≡ false → beside context (Wants t) op x y ≡ Wants t
 beside_whole context op x y t g h k = let p = not_logic op g in rw (p.0, p.1, h, k) refl
 
 -- ---- no two types
@@ -136,7 +136,7 @@ operator_left context want op x y t l h f i =
     ap (λ o. not (is_logic op) && where_there o (λ u. not (is_for op u))) p ∙ rw (l, i) refl
 
 -- an unsettled expression has no type of its own
-or_falses : (a b c : Bool) → a || b || c ≡ false → (a ≡ false) × (b ≡ false) × (c ≡ false)
+pub or_falses : (a b c : Bool) → a || b || c ≡ false → (a ≡ false) × (b ≡ false) × (c ≡ false)
 or_falses false false false h = (refl, refl, refl)
 or_falses true b c h = let no : ⊥ = cc in absurd no
 or_falses false true c h = let no : ⊥ = cc in absurd no

@@ -41,7 +41,7 @@ same_number (syntax.Element s brackets e index) = refl
 same_number (syntax.Cond s test first second) = refl
 same_number (syntax.Bare s e) = refl
 
-same_constant : (e : ExprSyntax) → is_constant e ≡ is_first_value e
+pub same_constant : (e : ExprSyntax) → is_constant e ≡ is_first_value e
 same_constant (syntax.Literal s value) = refl
 same_constant (syntax.Truth s value) = refl
 same_constant (syntax.Outcome s) = refl
@@ -89,15 +89,15 @@ fields_fit (more_fields h more) = let f = fields_fit more in omega arith
 -- ---- places
 
 -- the fields from i on are those of the struct
-abbrev From : List types.Field → ℕ → List types.Field → Type 0
+abbrev pub From : List types.Field → ℕ → List types.Field → Type 0
 From all i fields = (j : ℕ) → slice_get all (i + j) ≡ slice_get fields j
 
-from_next : (all : List types.Field) (i : ℕ) (f : types.Field) (fields : List types.Field) → From all i (f ∷ fields) → From all (i + 1) fields
+pub from_next : (all : List types.Field) (i : ℕ) (f : types.Field) (fields : List types.Field) → From all i (f ∷ fields) → From all (i + 1) fields
 from_next all i f fields h j =
     let e : (i + 1) + j ≡ i + suc j = omega arith in
     ap (slice_get all) e ∙ h (suc j)
 
-field_place : (env : Env) (k : ℕ) (st : StructType) (i : ℕ) (f : types.Field) (fields : List types.Field) → slice_get env.earlier.structs k ≡ Some st → From st.fields i (f ∷ fields)
+pub field_place : (env : Env) (k : ℕ) (st : StructType) (i : ℕ) (f : types.Field) (fields : List types.Field) → slice_get env.earlier.structs k ≡ Some st → From st.fields i (f ∷ fields)
     → place_in env.earlier (Some (types.Struct k)) i ≡ Some f.area
 field_place env k st i f fields h at =
     let e : i + 0 ≡ i = omega arith in

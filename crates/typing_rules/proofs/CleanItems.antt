@@ -82,16 +82,16 @@ gives_same earlier (types.Bits k) = refl
 gives_same earlier (types.Ref c r a) = ref_cells earlier c r r a
 
 -- a type is judged whatever its region is
-record ButRegion (earlier : Earlier) (ty : TypeSyntax) (t : ValueType) : Type 0 where
-  other : ValueType
-  there : type_but_region earlier ty ≡ Some other
-  plain : is_plain other ≡ is_plain t
-  cells : gives_other_cells earlier other ≡ not (writes_plain earlier t)
+pub record ButRegion (earlier : Earlier) (ty : TypeSyntax) (t : ValueType) : Type 0 where
+  pub other : ValueType
+  pub there : type_but_region earlier ty ≡ Some other
+  pub plain : is_plain other ≡ is_plain t
+  pub cells : gives_other_cells earlier other ≡ not (writes_plain earlier t)
 
 same_but : (earlier : Earlier) (ty : TypeSyntax) (t : ValueType) → type_but_region earlier ty ≡ Some t → ButRegion earlier ty t
 same_but earlier ty t h = record { other = t; there = h; plain = refl; cells = gives_same earlier t }
 
-but_region : (earlier : Earlier) (regions : List Word) (ty : TypeSyntax) (t : ValueType) → type_in earlier regions ty ≡ Some t → ButRegion earlier ty t
+pub but_region : (earlier : Earlier) (regions : List Word) (ty : TypeSyntax) (t : ValueType) → type_in earlier regions ty ≡ Some t → ButRegion earlier ty t
 but_region earlier regions (TruthType s) t h = same_but earlier (TruthType s) t h
 but_region earlier regions (IntType s k) t h = same_but earlier (IntType s k) t h
 but_region earlier regions (IndexType s n) t h = same_but earlier (IndexType s n) t h
@@ -156,13 +156,13 @@ result_14 Inner earlier regions ty t h k = refl
 -- ---- headers
 
 -- at a parameter or at the result
-abbrev at_place : Env → (gives : Bool) → (result : Option ValueType) → List faults.Local → Context
+abbrev pub at_place : Env → (gives : Bool) → (result : Option ValueType) → List faults.Local → Context
 at_place env gives result scope = record (context_of env) { gives = gives; result = result; scope = scope }
 
-abbrev Agrees : List faults.Local → List Word → Type 0
+abbrev pub Agrees : List faults.Local → List Word → Type 0
 Agrees scope before = (name : Word) → list_any (λ (l : faults.Local). same_word l.name name) scope ≡ has_word before name
 
-agrees_next : (scope : List faults.Local) (before : List Word) (l : faults.Local) → Agrees scope before → Agrees (scope ++ l ∷ []) (before ++ l.name ∷ [])
+pub agrees_next : (scope : List faults.Local) (before : List Word) (l : faults.Local) → Agrees scope before → Agrees (scope ++ l ∷ []) (before ++ l.name ∷ [])
 agrees_next scope before l h name =
     any_last (λ (x : faults.Local). same_word x.name name) scope l
     ∙ ap (λ b. b || same_word l.name name) (h name)
@@ -234,11 +234,11 @@ params_keep env [] ts = record { earlier = refl; result = refl }
 params_keep env (p ∷ params) [] = record { earlier = refl; result = refl }
 params_keep env (p ∷ params) (t ∷ ts) = let k = params_keep (with_local env p.name.text t) params ts in record { earlier = k.earlier; result = k.result }
 
-results_agree : {env : Env} {text : Option TypeSyntax} {r : Option ValueType} → Results env text r → (is_some r ≡ has_result text) × (r ≡ option_and_then (type_in env.earlier env.regions) text)
+pub results_agree : {env : Env} {text : Option TypeSyntax} {r : Option ValueType} → Results env text r → (is_some r ≡ has_result text) × (r ≡ option_and_then (type_in env.earlier env.regions) text)
 results_agree item.no_result = (refl, refl)
 results_agree (item.a_result names) = (refl, sym names.exists)
 
-behind_agrees : (names : List Word) (earlier : Earlier) (p : ProcSyntax) (ts : List ValueType) (r : Option ValueType) → StandsHeader (at_header names earlier p.header) p.header ts r
+pub behind_agrees : (names : List Word) (earlier : Earlier) (p : ProcSyntax) (ts : List ValueType) (r : Option ValueType) → StandsHeader (at_header names earlier p.header) p.header ts r
     → context_of (behind_header (at_header names earlier p.header) p ts r) ≡ rows.with_params (rows.at_header (faults.outside names earlier) p.header) p.header.params
 behind_agrees names earlier p ts r h =
     let env = at_header names earlier p.header in
@@ -267,7 +267,7 @@ named_stays earlier regions (RefType s c text area) t h =
         let q = mapped Param (position_from (λ n. same_word n name) 0 regions) (ref_parts c (region_in regions text) (area_in earlier area) t h).to e in
         ap (λ r. escapes (types.Ref c r (ref_parts c (region_in regions text) (area_in earlier area) t h).target)) q.is
 
-results_stay : {env : Env} {text : Option TypeSyntax} {r : Option ValueType} → Results env text r → Stays r
+pub results_stay : {env : Env} {text : Option TypeSyntax} {r : Option ValueType} → Results env text r → Stays r
 results_stay item.no_result u e = let no : ⊥ = cc in absurd no
 results_stay {env = env} (item.a_result {text = text} {t = t} names) u e = ap escapes (sym (some_same e)) ∙ named_stays env.earlier env.regions text t names.exists
 
@@ -290,7 +290,7 @@ all_cross : (f : ValueType → Bool) (ts : List ValueType) → ((t : ValueType) 
 all_cross f [] h = refl
 all_cross f (t ∷ ts) h = ap (λ b. b && list_all f ts) (h t) ∙ all_cross f ts h
 
-leave_plain : (r : Option ValueType) → none_or_plain r ≡ true → leave Exported r ≡ true
+pub leave_plain : (r : Option ValueType) → none_or_plain r ≡ true → leave Exported r ≡ true
 leave_plain None h = refl
 leave_plain (Some t) h = h
 
@@ -341,10 +341,10 @@ fields_clean {earlier = earlier} {before = before} (item.more_fields {f = f} {fi
     quiet_cons (AField before f) (area_row earlier f.area ++ rest) (quiet_field before f fresh)
     (quiet_append (area_row earlier f.area) rest (named_area_clean earlier f.area area (All-head FormedField f fields formed) names) (fields_clean more (All-tail FormedField f fields formed)))
 
-abbrev field_at : FieldSyntax → Area → types.Field
+abbrev pub field_at : FieldSyntax → Area → types.Field
 field_at f a = record { name = f.name.text; area = a }
 
-fields_there : {earlier : Earlier} {before : List Word} {fields : List FieldSyntax} {rest : List types.Field} → Fields earlier before fields rest
+pub fields_there : {earlier : Earlier} {before : List Word} {fields : List FieldSyntax} {rest : List types.Field} → Fields earlier before fields rest
     → (list_all (λ f. is_some (field_in earlier f)) fields ≡ true) × (filter_map (field_in earlier) fields ≡ rest)
 fields_there item.no_fields = (refl, refl)
 fields_there {earlier = earlier} (item.more_fields {f = f} {fields = fields} {area = area} fresh names more) =
@@ -373,7 +373,7 @@ laid_well word wishes layout h = go (is_filled word wishes) refl (first_fault []
     go true e (Some x) f g = let no : ⊥ = cc in absurd no
     go false e o f g = let no : ⊥ = cc in absurd no
 
-same_widths : (fields : List BitField) → bits_of (map wish_of fields) ≡ sum_by (λ (f : BitField). f.width) fields
+pub same_widths : (fields : List BitField) → bits_of (map wish_of fields) ≡ sum_by (λ (f : BitField). f.width) fields
 same_widths fields = go fields 0
   where
     go : (fs : List BitField) (n : ℕ) → fold (λ a (w : FieldWish). a + w.width) n (map wish_of fs) ≡ fold (λ a (f : BitField). a + f.width) n fs

@@ -17,7 +17,7 @@ use Rattle.rule_faults.specs.FirstFault.{first_of, first_fault}
 use Rattle.rule_faults.proofs.Found.{all_sound, complete}
 use Rattle.typing_rules.specs.WellTyped as module_rule
 use Rattle.typing_rules.specs.WellTyped.{StandItems, Stands, WellTyped}
-use Rattle.typing_rules.specs.Laws.{Faulty, StandingIsFaultless, NotBoth}
+use Rattle.typing_rules.specs.Laws.{Faulty, StandingIsFaultless}
 use Rattle.typing_rules.proofs.Quiet.{quiet_cons, quiet_append}
 use Rattle.typing_rules.proofs.QuietNodes.{InItem, quiet_item}
 use Rattle.typing_rules.proofs.Callees.{AllDetermined, determined_last, header_determined}
@@ -53,7 +53,7 @@ standing_is_clean m core formed stands = items_clean stands.items tt formed.item
 pub standing_is_faultless : StandingIsFaultless
 standing_is_faultless m core formed stands = all_sound (module_row m) (standing_is_clean m core formed stands)
 
-pub not_both : NotBoth
+pub not_both : (m : ModuleSyntax) → Formed m → WellTyped m → Faulty m → ⊥
 not_both m formed typed faulty =
     let e = sym (standing_is_clean m typed.core formed typed.stands) ∙ complete (module_row m) faulty.rule faulty.span faulty.fault in
     let no : ⊥ = cc in no

@@ -63,7 +63,7 @@ name_free env name h =
 index_is : (n : ℕ) → is_length n ≡ true → index_type n ≡ Some (types.Ix n)
 index_is n h = ap (λ b. cond b (Some (types.Ix n)) None) h
 
-counted_same : (env : Env) (name : Name) (n : ℕ) → is_length n ≡ true → context_of (in_counted env name n) ≡ rows.in_counted (context_of env) name n
+pub counted_same : (env : Env) (name : Name) (n : ℕ) → is_length n ≡ true → context_of (in_counted env name n) ≡ rows.in_counted (context_of env) name n
 counted_same env name n h = local_added (in_loop env) name.text (types.Ix n) ∙ ap (faults.with_local (rows.in_loop (context_of env)) name.text) (sym (index_is n h))
 
 pub after_agrees : {env after : Env} {s : StmtSyntax} {c : StmtCore} → StandsStmt env s after c → AllDetermined env.earlier.callees → context_of after ≡ after_stmt (context_of env) s

@@ -198,13 +198,13 @@ logic_label WrapMul at h = let no : ⊥ = cc in absurd no
 
 -- ---- links and steps
 
-chain_by : (g : Check → Check) (s : Span) (op : BinOp) (left : ExprSyntax) (label : Label) (c d : ExprCore) → expr_by g (chain s op left label c d) ≡ chain s op left (label_by g label) (expr_by g c) (expr_by g d)
+pub chain_by : (g : Check → Check) (s : Span) (op : BinOp) (left : ExprSyntax) (label : Label) (c d : ExprCore) → expr_by g (chain s op left label c d) ≡ chain s op left (label_by g label) (expr_by g c) (expr_by g d)
 chain_by g s op left label c d = ap (λ (x : ExprCore). core.Whole (unchecked label.ty) (core.Binary (label_by g label) op x (expr_by g d))) (part_by g (is_chain_prefix s op left) c)
 
-field_by : (g : Check → Check) (s : Span) (base : ExprSyntax) (t : ValueType) (c : ExprCore) (number : ℕ) → expr_by g (field_of s base t c number) ≡ field_of s base t (expr_by g c) number
+pub field_by : (g : Check → Check) (s : Span) (base : ExprSyntax) (t : ValueType) (c : ExprCore) (number : ℕ) → expr_by g (field_of s base t c number) ≡ field_of s base t (expr_by g c) number
 field_by g s base t c number = ap (λ (x : ExprCore). core.Whole (unchecked t) (core.Field (unchecked t) x number)) (part_by g (is_postfix_prefix s base) c)
 
-element_by : (g : Check → Check) (s : Span) (base : ExprSyntax) (t : ValueType) (c d : ExprCore) → expr_by g (element_of s base t c d) ≡ element_of s base t (expr_by g c) (expr_by g d)
+pub element_by : (g : Check → Check) (s : Span) (base : ExprSyntax) (t : ValueType) (c d : ExprCore) → expr_by g (element_of s base t c d) ≡ element_of s base t (expr_by g c) (expr_by g d)
 element_by g s base t c d = ap (λ (x : ExprCore). core.Whole (unchecked t) (core.Element (unchecked t) x (expr_by g d))) (part_by g (is_postfix_prefix s base) c)
 
 -- an operator on operands of which this type is wanted

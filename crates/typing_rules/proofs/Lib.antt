@@ -17,3 +17,14 @@ pub mod Ranks
 pub mod Cores
 pub mod StatementCores
 pub mod OneCore
+pub mod Judged
+pub mod Equal
+pub mod Made
+pub mod Typed
+pub mod TypedCalls
+pub mod TypedAreas
+pub mod TypedStatements
+pub mod TypedItems
+pub mod Renumbered
+pub mod Rising
+pub mod ExactlyOne

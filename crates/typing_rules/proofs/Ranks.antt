@@ -1,9 +1,9 @@
 -- The number of a site is the number of checks that stand before it, so the other parts of the checks determine it.
-use Rattle.std.proofs.Common.{◌≡◌, ℕ, zero, suc, ◌+◌, ◌*◌, ◌<◌, ◌≤◌, List, [], ◌∷◌, map, Bool, true, false, cond, ◌&&◌, ◌||◌, ◌⊎◌, inl, inr, refl, sym, ◌∙◌, ap, subst, All, IsPermutation, sum_by, nat_lt, nat_eq, arith, eqb-true}
+use Rattle.std.proofs.Common.{◌≡◌, ℕ, zero, suc, ◌+◌, ◌*◌, ◌<◌, ◌≤◌, List, [], ◌∷◌, ◌++◌, map, length, Bool, true, false, cond, ◌&&◌, ◌||◌, ◌⊎◌, inl, inr, refl, sym, ◌∙◌, ap, ap₂, subst, All, IsPermutation, sum_by, nat_lt, nat_eq, arith, eqb-true, length-append, append_assoc}
 use Rattle.std.proofs.lemmas.Bool.Decides.{nat_tests}
 use Rattle.std.proofs.lemmas.List.Elements.{All-cons, All-nil, All-head, All-tail}
 use Rattle.std.proofs.lemmas.List.Sums.{sum_by-cons}
-use Rattle.std.proofs.lemmas.List.Sorted.{All-permutation, sum_by-IsPermutation, IsPermutation-sym}
+use Rattle.std.proofs.lemmas.List.Sorted.{All-permutation, sum_by-IsPermutation, IsPermutation-sym, IsPermutation-refl}
 use Rattle.core_tree.specs.declared.Check.{Check}
 use Rattle.core_tree.specs.declared.SiteKind.{SiteKind}
 use Rattle.core_tree.specs.declared.SiteKind.TheVariants.{Overflow, DivZero, Shift, Index, Cast, Assert, Pre, Post}
@@ -169,3 +169,47 @@ each_back all (c ∷ cs) h =
 
 pub sites_back : (checks sites : List Check) → AreSitesOf checks sites → GivesBack (numbered_by (map unnumbered checks)) unnumbered checks
 sites_back checks sites h = each_back checks checks (sites_ranked checks sites h)
+
+-- ---- checks that stand in order, numbered by their ranks
+
+abbrev AllBelow : ℕ → List Check → Type 0
+AllBelow n [] = Unit {0}
+AllBelow n (c ∷ cs) = (key c < n) × AllBelow n cs
+
+below_last : (n : ℕ) (cs : List Check) (c : Check) → AllBelow n cs → key c < n → AllBelow n (cs ++ c ∷ [])
+below_last n [] c h k = (k, tt)
+below_last n (d ∷ cs) c h k = (h.0, below_last n cs c h.1 k)
+
+rank_join : (n : ℕ) (cs ds : List Check) → rank n (cs ++ ds) ≡ rank n cs + rank n ds
+rank_join n [] ds = omega arith
+rank_join n (c ∷ cs) ds = let h = rank_join n cs ds in omega arith
+
+all_counted : (n : ℕ) (cs : List Check) → AllBelow n cs → rank n cs ≡ length cs
+all_counted n [] h = refl
+all_counted n (c ∷ cs) h = ap₂ (λ a b. a + b) (ap (λ b. cond b 1 0) (below_is (key c) n h.0)) (all_counted n cs h.1) ∙ omega arith
+
+rank_first : (x : Check) (cs : List Check) → Ascends (x ∷ cs) → rank (key x) (x ∷ cs) ≡ 0
+rank_first x cs asc =
+    let here : below (key x) x ≡ 0 = ap (λ b. cond b 1 0) (not_below (key x) (key x) (omega arith)) in
+    let rest = none_below (key x) cs (rises x cs asc.0 asc.1) in
+    omega arith
+
+in_order : (done cs : List Check) → Ascends cs → ((c : Check) → In c cs → AllBelow (key c) done) → IsNumberedFrom (length done) (map (numbered_by (done ++ cs)) cs)
+in_order done [] asc h = tt
+in_order done (x ∷ cs) asc h =
+    let joined = rank_join (key x) done (x ∷ cs) in
+    let counted = all_counted (key x) done (h x (inl refl)) in
+    let first = rank_first x cs asc in
+    let here : rank (key x) (done ++ x ∷ cs) ≡ length done = omega arith in
+    let above = rises x cs asc.0 asc.1 in
+    let rest = in_order (done ++ x ∷ []) cs asc.1 (λ c m. below_last (key c) done x (h c (inr m)) (in_above (key x) c cs above m)) in
+    let long : length (done ++ x ∷ []) ≡ suc (length done) = omega (arith, length-append done (x ∷ [])) in
+    (here, subst (λ n. IsNumberedFrom n (map (numbered_by (done ++ x ∷ cs)) cs)) long (subst (λ all. IsNumberedFrom (length (done ++ x ∷ [])) (map (numbered_by all) cs)) (append_assoc done (x ∷ []) cs) rest))
+
+ascends_kept : (us cs : List Check) → Ascends cs → Ascends (map (numbered_by us) cs)
+ascends_kept us [] h = tt
+ascends_kept us (c ∷ []) h = (tt, tt)
+ascends_kept us (c ∷ d ∷ cs) h = (h.0, ascends_kept us (d ∷ cs) h.1)
+
+pub in_order_are_sites : (us : List Check) → Ascends us → AreSitesOf (map (numbered_by us) us) (map (numbered_by us) us)
+in_order_are_sites us asc = record { all = IsPermutation-refl (map (numbered_by us) us); ascending = ascends_kept us us asc; numbered = in_order [] us asc (λ c m. tt) }

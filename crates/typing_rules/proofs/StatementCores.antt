@@ -173,7 +173,7 @@ abbrev mutual
 -- ---- what stands
 
 -- the callees that a statement may call are those before it, whatever it declares
-callees_after : {env after : Env} {s : StmtSyntax} {c : StmtCore} → StandsStmt env s after c → AllDetermined env.earlier.callees → AllDetermined after.earlier.callees
+pub callees_after : {env after : Env} {s : StmtSyntax} {c : StmtCore} → StandsStmt env s after c → AllDetermined env.earlier.callees → AllDetermined after.earlier.callees
 callees_after (stands.let_stands f h) d = d
 callees_after (stands.let_call_stands f k) d = d
 callees_after (stands.alloc_stands a f names fill) d = d

@@ -1,5 +1,5 @@
--- What relates the two definitions, which are written apart: a module of the form that texts have is not both well typed and faulty.
--- It stands for one core at most. That it is one of both is stated here and not proved yet.
+-- What relates the two definitions, which are written apart: a module of the form that texts have is well typed or has a first fault, and
+-- not both; and it stands for one core at most.
 use Rattle.std.specs.Prelude.{◌≡◌, ◌⊎◌, ℕ}
 use Rattle.iv_words.specs.declared.Span.{Span}
 use Rattle.ivory_tree.specs.Syntax.{ModuleSyntax}
@@ -17,13 +17,14 @@ pub record Faulty (m : ModuleSyntax) : Type 0 where
 abbrev pub StandingIsFaultless : Type 0
 StandingIsFaultless = (m : ModuleSyntax) (core : ModuleCore) → Formed m → Stands m core → Faultless m
 
--- so no module is well typed and has a first fault
-abbrev pub NotBoth : Type 0
-NotBoth = (m : ModuleSyntax) → Formed m → WellTyped m → Faulty m → ⊥
+-- what breaks no rule stands for a core
+abbrev pub FaultlessIsTyped : Type 0
+FaultlessIsTyped = (m : ModuleSyntax) → Formed m → Faultless m → WellTyped m
 
--- one of both
-abbrev pub EitherOne : Type 0
-EitherOne = (m : ModuleSyntax) → Formed m → WellTyped m ⊎ Faulty m
+-- a module is well typed or has a first fault, and not both
+abbrev pub ExactlyOne : Type 0
+ExactlyOne = (m : ModuleSyntax) → Formed m → (WellTyped m ⊎ Faulty m) × (WellTyped m → Faulty m → ⊥)
 
+-- and it stands for one core at most
 abbrev pub OneCore : Type 0
 OneCore = (m : ModuleSyntax) (c d : ModuleCore) → Stands m c → Stands m d → c ≡ d

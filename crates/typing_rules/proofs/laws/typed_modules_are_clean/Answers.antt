@@ -1,6 +1,6 @@
-use Rattle.typing_rules.proofs.CleanModules.{standing_is_faultless, not_both}
+use Rattle.typing_rules.proofs.CleanModules.{standing_is_faultless}
 use Rattle.typing_rules.proofs.laws.typed_modules_are_clean.Goals as goal
 
 -- src/laws.rt:58:1
 pub returns : goal.returns
-returns c = record { faultless = standing_is_faultless; not_both = not_both }
+returns c = standing_is_faultless

@@ -1,7 +1,7 @@
 -- What is known of each earlier import and procedure: it has a result where that has a type, and the region of its result occurs in a
 -- parameter. So the arguments of a call that stands determine the type of its result.
-use Rattle.std.proofs.Common.{◌≡◌, ℕ, ◌==◌, ◌⊎◌, inl, inr, List, [], ◌∷◌, ◌++◌, map, Option, Some, None, option_map, option_and_then, unwrap_or, Bool, true, false, cond, ◌||◌, refl, sym, ◌∙◌, ap, subst, eq-eqb}
-use Rattle.std.specs.List.{find, position_from, list_any}
+use Rattle.std.proofs.Common.{◌≡◌, ℕ, ◌⊎◌, inl, inr, List, [], ◌∷◌, ◌++◌, map, Option, Some, None, option_map, option_and_then, unwrap_or, Bool, true, false, cond, ◌||◌, refl, sym, ◌∙◌, ap, subst, eq-eqb}
+use Rattle.std.specs.List.{find, position_from}
 use Rattle.iv_words.specs.Words.{same_word}
 use Rattle.iv_words.specs.declared.Span.{Span}
 use Rattle.ivory_tree.specs.Syntax.{Word, TypeSyntax, TruthType, IntType, IndexType, BitsType, RefType, AreaSyntax, ParamSyntax, HeaderSyntax, ExprSyntax, CallSyntax}
@@ -9,21 +9,19 @@ use Rattle.ivory_tree.specs.declared.types.RegionText.{RegionText}
 use Rattle.ivory_tree.specs.declared.types.RegionText.TheVariants as region
 use Rattle.area_types.specs.Syntax as types
 use Rattle.area_types.specs.Syntax.{ValueType, Area}
-use Rattle.area_types.specs.Tables.{is_length}
 use Rattle.area_types.specs.declared.region.Region.{Region}
 use Rattle.area_types.specs.declared.region.Region.TheVariants.{Global, Param, Own}
-use Rattle.region_check.specs.Calls.{Reference, reference_of, FitsReference}
-use Rattle.region_check.specs.Substitutions.{applied, under}
+use Rattle.region_check.specs.Calls.{Reference, reference_of}
+use Rattle.region_check.specs.Substitutions.{applied}
 use Rattle.region_check.specs.Faults.{known, region_at, or_else}
 use Rattle.core_tree.specs.Syntax.{ExprCore, CallCore}
-use Rattle.source_types.specs.Environments.{Earlier, Callee, callee_named, has_word}
-use Rattle.source_types.specs.Written.{with_region, with_regions, regions_of, region_in, type_in, area_in, ref_type, index_type, bits_type, has_result, callee_in}
-use Rattle.rule_faults.specs.ExpressionRows.{matched, matched_all}
+use Rattle.source_types.specs.Environments.{Earlier, Callee, has_word}
+use Rattle.source_types.specs.Written.{with_region, with_regions, regions_of, region_in, type_in, area_in, ref_type, has_result, callee_in}
+use Rattle.rule_faults.specs.ExpressionRows.{matched_all}
 use Rattle.rule_faults.specs.StatementRows.{result_for, call_type}
 use Rattle.typing_rules.specs.Environments.{Env}
 use Rattle.typing_rules.specs.Contexts.{context_of}
 use Rattle.typing_rules.specs.Calls.{Fit, no_args, value_arg, reference_arg, Calls}
-use Rattle.typing_rules.specs.Areas.{NamesType}
 use Rattle.typing_rules.specs.Items.{Params, no_params, more_params}
 use Rattle.typing_rules.specs.WellTyped.{at_header}
 use Rattle.typing_rules.proofs.Lookups.{some_same, same_equal, placed_any, any_last, mapped, bound}

@@ -1,6 +1,5 @@
 -- What is typed breaks no rule: each node of an expression is quiet.
-use Rattle.std.proofs.Common.{◌≡◌, ℕ, ◌+◌, List, [], ◌∷◌, ◌++◌, Option, Some, None, Bool, true, false, cond, not, ◌&&◌, ◌||◌, refl, ◌∙◌, ap, IsTrue}
-use Rattle.std.specs.List.{list_any, find, position_from}
+use Rattle.std.proofs.Common.{◌≡◌, [], ◌∷◌, ◌++◌, Option, Some, None, Bool, true, false, cond, not, ◌&&◌, ◌||◌, refl, ◌∙◌, ap, IsTrue}
 use Rattle.iv_words.specs.Words.{same_word}
 use Rattle.ivory_tree.specs.Syntax as syntax
 use Rattle.ivory_tree.specs.Syntax.{Word, ExprSyntax}
@@ -30,28 +29,11 @@ use Rattle.typing_rules.specs.Environments.{Env}
 use Rattle.typing_rules.specs.Contexts.{context_of}
 use Rattle.typing_rules.specs.Expressions as rule
 use Rattle.typing_rules.specs.Expressions.{Has, Under}
+use Rattle.typing_rules.proofs.Lookups.{found_any, placed_any}
 use Rattle.typing_rules.proofs.TypesAgree.{has_settled, typed, under_typed, in_both, in_neither, first_left}
 use Rattle.typing_rules.proofs.Quiet.{AsWanted, InForm, quiet, quiet_cons, quiet_append, type_same, nothing_wanted, type_wanted, unsettled_wanted}
 
 -- ---- what is named is there
-
-area_there : (name : Word) (areas : List AreaDeclared) (a : AreaDeclared) → find (λ (x : AreaDeclared). same_word x.name name) areas ≡ Some a → list_any (λ (x : AreaDeclared). same_word x.name name) areas ≡ true
-area_there name [] a h = let no : ⊥ = cc in absurd no
-area_there name (x ∷ areas) a h = go (area_there name areas a) (same_word x.name name) refl h
-  where
-    go : (find (λ (y : AreaDeclared). same_word y.name name) areas ≡ Some a → list_any (λ (y : AreaDeclared). same_word y.name name) areas ≡ true)
-        → (b : Bool) → same_word x.name name ≡ b → cond b (Some x) (find (λ (y : AreaDeclared). same_word y.name name) areas) ≡ Some a → list_any (λ (y : AreaDeclared). same_word y.name name) (x ∷ areas) ≡ true
-    go ih true e g = rw e refl
-    go ih false e g = rw (e, ih g) refl
-
-bits_there : (name : Word) (i : ℕ) (items : List BitsItem) (k : ℕ) → position_from (λ (x : BitsItem). same_word x.name.text name) i items ≡ Some k → list_any (λ (x : BitsItem). same_word x.name.text name) items ≡ true
-bits_there name i [] k h = let no : ⊥ = cc in absurd no
-bits_there name i (x ∷ items) k h = go (bits_there name (i + 1) items k) (same_word x.name.text name) refl h
-  where
-    go : (position_from (λ (y : BitsItem). same_word y.name.text name) (i + 1) items ≡ Some k → list_any (λ (y : BitsItem). same_word y.name.text name) items ≡ true)
-        → (b : Bool) → same_word x.name.text name ≡ b → cond b (Some i) (position_from (λ (y : BitsItem). same_word y.name.text name) (i + 1) items) ≡ Some k → list_any (λ (y : BitsItem). same_word y.name.text name) (x ∷ items) ≡ true
-    go ih true e g = rw e refl
-    go ih false e g = rw (e, ih g) refl
 
 word_bits : (earlier : Earlier) (t w : ValueType) → word_type earlier t ≡ Some w → is_bit_data t ≡ true
 word_bits earlier (types.Bits k) w h = refl
@@ -210,7 +192,7 @@ mutual
   clean {env = env} (rule.local {s = s} {name = name} {l = l} h) want w =
       node_alone (context_of env) want (syntax.Variable s name) w (let p = in_both name env.scope l h in rw p.0 refl, refl, refl, refl, refl, refl, refl, refl, refl, refl, refl, refl, refl, refl)
   clean {env = env} (rule.area_name {s = s} {name = name} {a = a} n h g k) want w =
-      node_alone (context_of env) want (syntax.Variable s name) w (rw (in_neither name env.scope n, area_there name env.earlier.areas a h) refl, refl, refl, refl, refl, refl, refl, refl, refl, refl, refl, refl, refl, refl)
+      node_alone (context_of env) want (syntax.Variable s name) w (rw (in_neither name env.scope n, found_any (λ (x : AreaDeclared). same_word x.name name) env.earlier.areas a h) refl, refl, refl, refl, refl, refl, refl, refl, refl, refl, refl, refl, refl, refl)
   clean {env = env} (rule.cast {s = s} {kind = kind} {e = e} h i l) want w =
       node_with (context_of env) want (syntax.Cast s kind e) w (refl, refl, refl, refl, refl, refl, refl, refl, refl, refl, rw (has_settled h, typed h None, i) refl, refl, refl, refl)
       e (of_cast kind e) (row_at (context_of env) e (of_cast kind e) (rw (has_settled h) refl) (clean h Nothing (nothing_wanted (context_of env) e (has_settled h))))
@@ -224,7 +206,7 @@ mutual
       node_with (context_of env) want (syntax.WrapIndex s n e) w (refl, refl, rw k refl, refl, refl, refl, refl, refl, refl, refl, refl, rw (typed h None, i) refl, refl, refl)
       e Nothing (clean h Nothing (nothing_wanted (context_of env) e (has_settled h)))
   clean {env = env} (rule.make_bits {s = s} {name = name} {e = e} {k = k} n v u) want w =
-      node_with (context_of env) want (syntax.MakeBits s name e) w (refl, rw (bits_there name 0 env.earlier.bits k n) refl, refl, refl, refl, refl, refl, refl, refl, refl, refl, refl, refl, refl)
+      node_with (context_of env) want (syntax.MakeBits s name e) w (refl, rw (placed_any (λ (x : BitsItem). same_word x.name.text name) 0 env.earlier.bits k n) refl, refl, refl, refl, refl, refl, refl, refl, refl, refl, refl, refl, refl)
       e (of_word (context_of env) name) (row_at (context_of env) e (of_word (context_of env) name) (rw (n, v) refl) (clean_under u).wanted)
   clean {env = env} (rule.raw {s = s} {e = e} {c = c} {word = word} h v) want w =
       node_with (context_of env) want (syntax.Raw s e) w (refl, refl, refl, refl, refl, refl, refl, refl, refl, refl, refl, refl, rw (typed h None, word_bits env.earlier (core.type_of c) word v) refl, refl)

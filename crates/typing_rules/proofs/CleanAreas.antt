@@ -1,10 +1,9 @@
 -- Areas and types that a program may name break no rule: a part of a small area is small.
-use Rattle.std.proofs.Common.{◌≡◌, ℕ, zero, suc, ◌+◌, ◌*◌, ◌≤◌, List, [], ◌∷◌, Option, Some, None, option_map, Bool, true, false, cond, not, ◌&&◌, refl, sym, ◌∙◌, ap, subst, IsTrue, arith, nat_le, suc-mul, le-leb}
+use Rattle.std.proofs.Common.{◌≡◌, ℕ, zero, suc, ◌+◌, ◌*◌, ◌≤◌, List, [], Option, Some, None, option_map, Bool, true, false, cond, not, refl, sym, ◌∙◌, ap, subst, IsTrue, arith, nat_le, suc-mul, le-leb}
 use Rattle.iv_words.specs.declared.IntKind.{IntKind}
 use Rattle.iv_words.specs.Words.{same_word}
 use Rattle.ivory_tree.specs.Syntax.{Word, TypeSyntax, TruthType, IntType, IndexType, BitsType, RefType, AreaSyntax, StoredArea, ArrayArea, StructArea}
 use Rattle.ivory_tree.specs.declared.items.BitsItem.{BitsItem}
-use Rattle.ivory_tree.specs.declared.types.RegionText.{RegionText}
 use Rattle.ivory_tree.specs.Formed.{NoReference, FormedType, FormedArea}
 use Rattle.type_trees.specs.Trees.{levels}
 use Rattle.type_trees.specs.Trees as trees
@@ -25,7 +24,7 @@ use Rattle.rule_faults.specs.ExpressionRows.{type_row, area_row}
 use Rattle.rule_faults.specs.FirstFault.{first_of}
 use Rattle.typing_rules.specs.Areas.{NamesArea, NamesType, is_small_area, has_small_area}
 use Rattle.typing_rules.proofs.Lookups.{some_same, placed_any, mapped}
-use Rattle.typing_rules.proofs.Quiet.{quiet_cons, quiet_append}
+use Rattle.typing_rules.proofs.Quiet.{quiet_cons}
 use Rattle.typing_rules.proofs.QuietNodes.{quiet_type, quiet_area}
 
 -- ---- lengths

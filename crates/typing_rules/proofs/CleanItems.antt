@@ -1,11 +1,10 @@
 -- Items that stand break no rule.
-use Rattle.std.proofs.Common.{◌≡◌, ℕ, ◌+◌, List, [], ◌∷◌, ◌++◌, length, map, Option, Some, None, option_map, option_and_then, is_some, Bool, true, false, cond, not, ◌&&◌, ◌||◌, refl, sym, ◌∙◌, ap, subst, IsTrue, IfSome, All, ℤ, nat_eq, sum_by, filter_map, fold, Result, Ok, Err}
+use Rattle.std.proofs.Common.{◌≡◌, ℕ, ◌+◌, List, [], ◌∷◌, ◌++◌, length, map, Option, Some, None, option_map, option_and_then, is_some, Bool, true, false, cond, not, ◌&&◌, ◌||◌, refl, sym, ◌∙◌, ap, subst, IsTrue, IfSome, All, ℤ, nat_eq, sum_by, filter_map, fold, Ok, Err}
 use Rattle.std.specs.List.{list_any, list_all, cons_option, position_from}
 use Rattle.std.proofs.lemmas.List.Elements.{All-head, All-tail}
 use Rattle.iv_words.specs.Words.{same_word}
 use Rattle.iv_words.specs.Kinds.{width, is_signed}
 use Rattle.iv_words.specs.declared.IntKind.{IntKind}
-use Rattle.iv_words.specs.declared.Span.{Span}
 use Rattle.ivory_tree.specs.Syntax as syntax
 use Rattle.ivory_tree.specs.Syntax.{Word, TypeSyntax, TruthType, IntType, IndexType, BitsType, RefType, FieldSyntax, StructSyntax, GlobalSyntax, ParamSyntax, HeaderSyntax, ContractSyntax, ProcSyntax, InitSyntax}
 use Rattle.ivory_tree.specs.declared.items.BitField.{BitField}
@@ -19,9 +18,8 @@ use Rattle.area_types.specs.Syntax.{ValueType, Area}
 use Rattle.area_types.specs.Tables.{is_small, is_length}
 use Rattle.area_types.specs.Trees.{Written, WrittenRow, fields_of, trees_of}
 use Rattle.area_types.specs.declared.region.Region.{Region}
-use Rattle.area_types.specs.declared.region.Region.TheVariants.{Global, Param, Own}
+use Rattle.area_types.specs.declared.region.Region.TheVariants.{Global, Param}
 use Rattle.region_check.specs.Substitutions.{escapes}
-use Rattle.bit_data.specs.Layouts as layouts
 use Rattle.bit_data.specs.Layouts.{laid_out, is_filled, bits_of, is_name_of, first_fault, faultless}
 use Rattle.bit_data.specs.declared.FieldWish.{FieldWish}
 use Rattle.bit_data.specs.declared.BitLayout.{BitLayout}
@@ -29,7 +27,7 @@ use Rattle.bit_data.specs.declared.LayoutFault.{LayoutFault}
 use Rattle.bit_data.specs.declared.LayoutFault.TheVariants.{WidthSum, TwiceNamed, EmptyField}
 use Rattle.control_effects.specs.Falling.{block_falls}
 use Rattle.core_tree.specs.Syntax.{AreaCore, ImportCore, ContractCore, ProcCore}
-use Rattle.source_types.specs.Environments.{Earlier, Callee, words, has_word}
+use Rattle.source_types.specs.Environments.{Earlier, words, has_word}
 use Rattle.source_types.specs.Values.{is_plain}
 use Rattle.source_types.specs.Written.{region_in, type_in, area_in, ref_type, regions_of, has_result, field_in}
 use Rattle.rule_faults.specs.Contexts as faults
@@ -45,11 +43,11 @@ use Rattle.rule_faults.specs.ItemRows.{bit_fields_row, fields_row, params_row, r
 use Rattle.rule_faults.specs.FirstFault.{first_of}
 use Rattle.typing_rules.specs.Environments.{Env, with_local}
 use Rattle.typing_rules.specs.Contexts.{context_of}
-use Rattle.typing_rules.specs.Areas.{NamesType, written}
+use Rattle.typing_rules.specs.Areas.{written}
 use Rattle.typing_rules.specs.Items as item
 use Rattle.typing_rules.specs.Items.{wish_of, StandsBits, Fields, StandsStruct, FirstValues, StandsArea, Params, Results, StandsHeader, none_or_plain, has_plain_cells, have_plain_cells, writes_plain, StandsImport, with_params, behind_header, in_body, at_contract, Contracts, StandsProc}
 use Rattle.typing_rules.specs.WellTyped.{outside, at_header}
-use Rattle.typing_rules.proofs.Lookups.{some_same, placed_any, any_last, and_both, neither, mapped}
+use Rattle.typing_rules.proofs.Lookups.{some_same, placed_any, any_last, and_both, mapped}
 use Rattle.typing_rules.proofs.Quiet.{quiet_cons, quiet_append}
 use Rattle.typing_rules.proofs.QuietNodes.{quiet_param, quiet_contract, quiet_bit_field, quiet_field}
 use Rattle.typing_rules.proofs.Clean.{clean_under}

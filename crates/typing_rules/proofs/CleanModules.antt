@@ -1,13 +1,12 @@
 -- A module that stands for a core has no fault.
-use Rattle.std.proofs.Common.{◌≡◌, ℕ, List, [], ◌∷◌, ◌++◌, Some, None, true, false, refl, sym, ◌∙◌, All}
+use Rattle.std.proofs.Common.{◌≡◌, List, ◌∷◌, ◌++◌, None, true, false, refl, sym, ◌∙◌, All}
 use Rattle.std.proofs.lemmas.List.Elements.{All-head, All-tail}
-use Rattle.iv_words.specs.declared.Span.{Span}
 use Rattle.ivory_tree.specs.Syntax as syntax
 use Rattle.ivory_tree.specs.Syntax.{Word, ItemSyntax, ModuleSyntax}
 use Rattle.ivory_tree.specs.Formed.{Formed, FormedItem}
 use Rattle.bit_data.specs.declared.BitLayout.{BitLayout}
 use Rattle.core_tree.specs.Syntax.{AreaCore, ImportCore, ProcCore, ModuleCore}
-use Rattle.source_types.specs.Environments.{Earlier, Callee}
+use Rattle.source_types.specs.Environments.{Earlier}
 use Rattle.source_types.specs.Items.{after}
 use Rattle.source_types.specs.Written.{callee_in}
 use Rattle.rule_faults.specs.Contexts as faults

@@ -1,5 +1,5 @@
 -- Statements that stand break no rule, and both definitions know the same after each.
-use Rattle.std.proofs.Common.{◌≡◌, ℕ, List, [], ◌∷◌, ◌++◌, length, Option, Some, None, option_map, option_and_then, is_some, Bool, true, false, cond, not, ◌&&◌, ◌||◌, refl, sym, ◌∙◌, ap}
+use Rattle.std.proofs.Common.{◌≡◌, ℕ, List, [], ◌∷◌, ◌++◌, length, Option, Some, None, option_and_then, is_some, Bool, true, false, cond, not, ◌&&◌, ◌||◌, refl, sym, ◌∙◌, ap}
 use Rattle.std.specs.List.{list_any}
 use Rattle.iv_words.specs.declared.Name.{Name}
 use Rattle.iv_words.specs.Words.{same_word}
@@ -12,29 +12,29 @@ use Rattle.area_types.specs.Syntax.{ValueType, Area}
 use Rattle.area_types.specs.Tables.{is_length}
 use Rattle.area_types.specs.declared.region.Region.{Region}
 use Rattle.area_types.specs.declared.region.Region.TheVariants.{Global, Param, Own}
-use Rattle.region_check.specs.Calls.{Reference, reference_of, may_stand_for}
+use Rattle.region_check.specs.Calls.{Reference, reference_of}
 use Rattle.region_check.specs.Substitutions.{applied, escapes}
 use Rattle.alloc_effects.specs.declared.allowed.Narrowing.TheVariants as narrowing
 use Rattle.control_effects.specs.Falling.{stmt_falls, block_falls}
 use Rattle.core_tree.specs.Syntax.{ExprCore, CallCore, InitCore, StmtCore, StmtsCore, type_of}
-use Rattle.source_types.specs.Environments.{Callee, callee_named, has_word}
+use Rattle.source_types.specs.Environments.{Callee, has_word}
 use Rattle.source_types.specs.Parts.{stored_type}
 use Rattle.source_types.specs.Settled.{settled}
-use Rattle.source_types.specs.Values.{same_area, same_region}
+use Rattle.source_types.specs.Values.{same_area}
 use Rattle.source_types.specs.Written.{index_type, area_in}
 use Rattle.rule_faults.specs.Contexts as faults
 use Rattle.rule_faults.specs.Contexts.{Context, is_taken, own_area}
 use Rattle.rule_faults.specs.Types.{own_type}
-use Rattle.rule_faults.specs.Wants.{Want, Nothing, Wants, Returns as ReturnsFor, wants, of_stored, of_returned}
+use Rattle.rule_faults.specs.Wants.{Nothing, Wants, Returns as ReturnsFor, wants, of_stored, of_returned}
 use Rattle.rule_faults.specs.Nodes.{Node, ABlock, AStatement, AnExpr}
 use Rattle.rule_faults.specs.Tests.{where_there, where_both}
 use Rattle.rule_faults.specs.ExpressionRules.{stores, fits}
 use Rattle.rule_faults.specs.StatementRules.{only_reads, alike, rule_33, rule_40}
-use Rattle.rule_faults.specs.ExpressionRows.{expr_row, call_row, area_row, init_row}
+use Rattle.rule_faults.specs.ExpressionRows.{expr_row, call_row, area_row}
 use Rattle.rule_faults.specs.StatementRows.{after_stmt, stmt_row, block_row, stmts_row, alloc_row, value_row, of_value}
 use Rattle.rule_faults.specs.StatementRows as rows
 use Rattle.rule_faults.specs.FirstFault.{first_of}
-use Rattle.typing_rules.specs.Environments.{Env, Local, with_local, is_free, after_block}
+use Rattle.typing_rules.specs.Environments.{Env, Local, with_local, is_free}
 use Rattle.typing_rules.specs.Contexts.{local_of, context_of}
 use Rattle.typing_rules.specs.Expressions.{Has}
 use Rattle.typing_rules.specs.Calls.{Calls}

@@ -1,8 +1,7 @@
 -- The core of an expression, up to the numbers of its checks, as a function of its text. What is missing in a text that is not typed has
 -- something in its place. An expression that is typed has this core, so it has no other.
-use Rattle.std.proofs.Common.{◌≡◌, ℕ, ℤ, List, [], ◌∷◌, map, Option, Some, None, option_map, unwrap_or, Bool, true, false, cond, ◌||◌, not, refl, sym, ◌∙◌, ap, ap₂}
+use Rattle.std.proofs.Common.{◌≡◌, ℕ, List, [], ◌∷◌, map, Option, Some, None, unwrap_or, Bool, true, false, cond, refl, sym, ◌∙◌, ap, ap₂}
 use Rattle.iv_words.specs.declared.IntKind.{IntKind}
-use Rattle.iv_words.specs.declared.Name.{Name}
 use Rattle.iv_words.specs.declared.Span.{Span}
 use Rattle.ivory_tree.specs.Syntax as syntax
 use Rattle.ivory_tree.specs.Syntax.{Word, ExprSyntax}
@@ -18,7 +17,7 @@ use Rattle.core_tree.specs.Syntax as core
 use Rattle.core_tree.specs.Syntax.{ExprCore, Label, type_of}
 use Rattle.core_tree.specs.declared.Check.{Check}
 use Rattle.core_tree.specs.declared.SiteKind.{SiteKind}
-use Rattle.source_types.specs.Operators.{is_logic, is_comparison, gives_truth, is_arithmetic}
+use Rattle.source_types.specs.Operators.{is_logic, is_arithmetic}
 use Rattle.source_types.specs.Settled.{settled}
 use Rattle.source_types.specs.Environments.{AreaDeclared, area_named, number_of_bits}
 use Rattle.source_types.specs.Parts.{stored_type, length_behind, element_type, field_type, word_type, bit_field_type, bit_field_named, bit_field_number, field_number}
@@ -26,10 +25,11 @@ use Rattle.rule_faults.specs.Types.{own_type}
 use Rattle.typing_rules.specs.Environments.{Env, Local, local_named, area_number}
 use Rattle.typing_rules.specs.Contexts.{context_of}
 use Rattle.typing_rules.specs.Sites.{Labelled, unchecked, operator_sites, prefix_sites, cast_sites, index_sites, set_sites, first_token, name_bytes}
-use Rattle.typing_rules.specs.Wholes.{is_chain_prefix, is_postfix_prefix, part}
+use Rattle.typing_rules.specs.Wholes.{is_chain_prefix, is_postfix_prefix}
 use Rattle.typing_rules.specs.Expressions as rule
 use Rattle.typing_rules.specs.Expressions.{Has, Under, truth_value, result_type, chain, field_of, element_of}
 use Rattle.typing_rules.proofs.TypesAgree.{has_settled, typed, under_typed}
+use Rattle.typing_rules.proofs.Clean.{not_logic}
 use Rattle.typing_rules.proofs.Relabelled.{label_by, expr_by, type_by, part_by}
 use Rattle.typing_rules.proofs.Ranks.{unnumbered}
 
@@ -58,10 +58,10 @@ labelled_bare {label = label} {t = t} {kinds = kinds} {at = at} l = ap₂ (λ (u
 -- ---- the core
 
 -- where nothing is there
-abbrev any_type : ValueType
+abbrev pub any_type : ValueType
 any_type = types.Truth
 
-abbrev type_or : Option ValueType → ValueType
+abbrev pub type_or : Option ValueType → ValueType
 type_or o = unwrap_or o any_type
 
 abbrev number_or : Option ℕ → ℕ
@@ -164,14 +164,6 @@ operand_truth env w op x y l = ap (λ b. cond b types.Truth (beside env w x y)) 
 
 operand_beside : (env : Env) (w : ValueType) (op : BinOp) (x y : ExprSyntax) → is_logic op ≡ false → operand env w op x y ≡ beside env w x y
 operand_beside env w op x y l = ap (λ b. cond b types.Truth (beside env w x y)) l
-
-plain_operator : (op : BinOp) → gives_truth op ≡ false → (is_logic op ≡ false) × (is_comparison op ≡ false)
-plain_operator op h = go (is_logic op) (is_comparison op) refl refl h
-  where
-    go : (a b : Bool) → is_logic op ≡ a → is_comparison op ≡ b → a || b ≡ false → (is_logic op ≡ false) × (is_comparison op ≡ false)
-    go false false e f g = (e, f)
-    go true b e f g = let no : ⊥ = cc in absurd no
-    go false true e f g = let no : ⊥ = cc in absurd no
 
 logic_label : (op : BinOp) (at : Span) → is_logic op ≡ true → Labelled (unchecked types.Truth) (result_type op types.Truth) (operator_sites op types.Truth) at
 logic_label OrElse at h = record { ty = refl; checks = record { kinds = refl; places = refl } }
@@ -281,7 +273,7 @@ mutual
       ∙ ap (λ o. set_core env s name.text (core_of env w e) (core_of env (new_type o) value)) n
       ∙ ap₂ (set_core env s name.text) (has_core h w) (under_core u)
       ∙ ap (λ t. core.SetField (bare (Bits (bits_number t)) (new_sites (bit_field_named env.earlier (bits_number t) name.text)) (first_token s 3)) (expr_by unnumbered c) (number_or (bit_field_number env.earlier (bits_number t) name.text)) (expr_by unnumbered d))
-          (type_by unnumbered c ∙ q)
+      (type_by unnumbered c ∙ q)
       ∙ ap₂ (λ o p. core.SetField (bare (Bits k) (new_sites o) (first_token s 3)) (expr_by unnumbered c) (number_or p) (expr_by unnumbered d)) n m
       ∙ ap (λ x. core.SetField x (expr_by unnumbered c) number (expr_by unnumbered d)) (sym (labelled_bare l))
   has_core (rule.negated u) w = ap (core.Prefix (unchecked types.Truth) Not) (under_core u)
@@ -321,7 +313,7 @@ mutual
   under_core (rule.literal h) = refl
   under_core (rule.signed_under {env = env} {t = t} {s = s} {op = op} {e = e} {c = c} {label = label} a n u p l) = signed_is env t t s op e c label a (under_core u) (under_typed u).1 l
   under_core (rule.operated_under {env = env} {t = t} {s = s} {at = at} {op = op} {left = left} {right = right} {c = c} {d = d} {label = label} g n m u v i l) =
-      operated_is env t t s at op left right c d label (operand_beside env t op left right (plain_operator op g).0 ∙ beside_none env t left right n m) (under_core u) (under_core v)
-      (record { ty = l.ty ∙ ap (λ b. cond b types.Truth t) (sym (plain_operator op g).1); checks = l.checks })
+      operated_is env t t s at op left right c d label (operand_beside env t op left right (not_logic op g).0 ∙ beside_none env t left right n m) (under_core u) (under_core v)
+      (record { ty = l.ty ∙ ap (λ b. cond b types.Truth t) (sym (not_logic op g).1); checks = l.checks })
   under_core (rule.choice_under {env = env} {t = t} {s = s} {test = test} {first = first} {second = second} {b = b} {c = c} {d = d} u n m v x) =
       choice_is env t t s test first second b c d (beside_none env t first second n m) (under_core u) (under_core v) (under_core x)

@@ -1,5 +1,5 @@
 -- Types of which the test says that they are the same are equal.
-use Rattle.std.proofs.Common.{◌≡◌, ℕ, Bool, true, false, cond, not, ◌&&◌, refl, sym, ◌∙◌, ap, ap₂, nat_eq, eqb-true}
+use Rattle.std.proofs.Common.{◌≡◌, ℕ, Bool, true, false, cond, ◌&&◌, refl, sym, ◌∙◌, ap, ap₂, nat_eq, eqb-true}
 use Rattle.iv_words.specs.Kinds.{width, is_signed}
 use Rattle.iv_words.specs.declared.IntKind.{IntKind}
 use Rattle.iv_words.specs.declared.IntKind.TheVariants.{U8, U16, U32, U64, I8, I16, I32, I64}

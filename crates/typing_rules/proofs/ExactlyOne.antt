@@ -6,7 +6,7 @@ use Rattle.ivory_tree.specs.Syntax.{ModuleSyntax}
 use Rattle.ivory_tree.specs.Formed.{Formed}
 use Rattle.area_types.specs.Syntax as types
 use Rattle.area_types.specs.Syntax.{ValueType, Area, StructType}
-use Rattle.area_types.specs.Tables.{Table, structs_of}
+use Rattle.area_types.specs.Tables.{Table}
 use Rattle.area_types.specs.View.{type_of, area_of, field_of, struct_of}
 use Rattle.area_types.specs.declared.FieldDef.{FieldDef}
 use Rattle.area_types.specs.declared.StructDef.{StructDef}
@@ -20,12 +20,12 @@ use Rattle.core_tree.specs.Syntax.{ProcCore, ModuleCore}
 use Rattle.core_tree.specs.Checks.{proc_checks}
 use Rattle.core_tree.specs.Sites.{AreSitesOf}
 use Rattle.core_tree.specs.declared.Check.{Check}
-use Rattle.source_types.specs.Environments.{Earlier, nothing_earlier, words}
+use Rattle.source_types.specs.Environments.{nothing_earlier, words}
 use Rattle.source_types.specs.Items.{item_names}
 use Rattle.rule_faults.specs.ItemRows.{module_row}
 use Rattle.rule_faults.specs.FirstFault.{first_fault}
 use Rattle.rule_faults.proofs.Found.{found, none_first}
-use Rattle.typing_rules.specs.WellTyped.{Stands, WellTyped}
+use Rattle.typing_rules.specs.WellTyped.{WellTyped}
 use Rattle.typing_rules.specs.Laws.{Faulty, FaultlessIsTyped, ExactlyOne}
 use Rattle.typing_rules.proofs.CleanModules.{not_both}
 use Rattle.typing_rules.proofs.Made.{Given}
@@ -33,7 +33,7 @@ use Rattle.typing_rules.proofs.Relabelled.{proc_by, procs_checks_by}
 use Rattle.typing_rules.proofs.Ranks.{numbered_by, in_order_are_sites}
 use Rattle.typing_rules.proofs.Renumbered.{items_kept}
 use Rattle.typing_rules.proofs.Rising.{rising_ascends, items_inside}
-use Rattle.typing_rules.proofs.TypedItems.{ItemsTyped, items_typed}
+use Rattle.typing_rules.proofs.TypedItems.{items_typed}
 
 -- ---- the table of these structs
 

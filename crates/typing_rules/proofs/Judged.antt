@@ -1,8 +1,7 @@
 -- What is known of a row without a fault: each rule at each node of it.
 use Rattle.std.proofs.Common.{◌≡◌, ℕ, List, [], ◌∷◌, ◌++◌, Option, Some, None, option_map, Bool, true, false, cond, not, refl, sym, ◌∙◌, ap}
 use Rattle.std.specs.List.{find}
-use Rattle.iv_words.specs.declared.Span.{Span}
-use Rattle.rule_faults.specs.Nodes.{Node, span_of}
+use Rattle.rule_faults.specs.Nodes.{Node}
 use Rattle.rule_faults.specs.Tests.{where_there}
 use Rattle.rule_faults.specs.ItemRules.{rule_1, rule_2, rule_3, rule_8, rule_9, rule_10, rule_11, rule_12, rule_13, rule_14, rule_15, rule_16, rule_17}
 use Rattle.rule_faults.specs.ExpressionRules.{rule_4, rule_5, rule_6, rule_7, rule_18, rule_19, rule_20, rule_21, rule_22, rule_23, rule_24, rule_25, rule_26, rule_27, rule_28, rule_29, rule_30, rule_35, rule_36, rule_37, rule_38, rule_39}

@@ -1,7 +1,7 @@
 -- Types that are made of what is declared: each bit data and each struct in them has a number that is given. So are the types of all that is
 -- in scope, and then the type of each typed expression is.
-use Rattle.std.proofs.Common.{◌≡◌, ℕ, zero, suc, ◌+◌, ◌<◌, ◌≤◌, List, [], ◌∷◌, ◌++◌, length, Option, Some, None, option_map, option_and_then, Bool, true, false, cond, refl, sym, ◌∙◌, ap, subst, arith, slice_get, length-append}
-use Rattle.std.specs.List.{find, position_from, list_any}
+use Rattle.std.proofs.Common.{◌≡◌, ℕ, zero, suc, ◌+◌, ◌<◌, ◌≤◌, List, [], ◌∷◌, length, Option, Some, None, Bool, true, false, cond, refl, sym, ◌∙◌, ap, subst, arith, slice_get}
+use Rattle.std.specs.List.{find, position_from}
 use Rattle.iv_words.specs.Words.{same_word}
 use Rattle.iv_words.specs.declared.IntKind.{IntKind}
 use Rattle.ivory_tree.specs.Syntax.{Word, ExprSyntax}
@@ -11,13 +11,12 @@ use Rattle.ivory_tree.specs.declared.expr.BinOp.{BinOp}
 use Rattle.area_types.specs.Syntax as types
 use Rattle.area_types.specs.Syntax.{ValueType, Area, StructType}
 use Rattle.area_types.specs.declared.region.Region.{Region}
-use Rattle.core_tree.specs.Syntax as core
 use Rattle.core_tree.specs.Syntax.{ExprCore, type_of}
 use Rattle.source_types.specs.Operators.{is_comparison}
 use Rattle.source_types.specs.Values.{least_unsigned, is_reference}
-use Rattle.source_types.specs.Environments.{Earlier, AreaDeclared, Callee, number_of_bits}
+use Rattle.source_types.specs.Environments.{Earlier, AreaDeclared, Callee}
 use Rattle.source_types.specs.Parts.{stored_type, field_type, field_named, word_type, bit_field_type, bit_field_named}
-use Rattle.typing_rules.specs.Environments.{Env, Local, local_named}
+use Rattle.typing_rules.specs.Environments.{Env, Local}
 use Rattle.typing_rules.specs.Expressions as rule
 use Rattle.typing_rules.specs.Expressions.{Has, Under, result_type}
 use Rattle.typing_rules.proofs.Lookups.{some_same, mapped, bound}
@@ -208,8 +207,8 @@ has_made rule.truth m = tt
 has_made {env = env} (rule.outcome h g) m = subst (MadeMaybe (length env.earlier.bits) (length env.earlier.structs)) g m.2
 has_made {env = env} (rule.local {name = name} {l = l} h) m = local_made (length env.earlier.bits) (length env.earlier.structs) (λ (x : Local). same_word x.name name) env.scope l m.1 h
 has_made {env = env} (rule.area_name {name = name} {a = a} n h g k) m =
-      let p = area_there (length env.earlier.bits) (length env.earlier.structs) (λ (x : AreaDeclared). same_word x.name name) env.earlier.areas a m.0.areas h in
-      subst (MadeArea (length env.earlier.bits) (length env.earlier.structs)) (some_same (sym p.there ∙ g)) p.is_made
+    let p = area_there (length env.earlier.bits) (length env.earlier.structs) (λ (x : AreaDeclared). same_word x.name name) env.earlier.areas a m.0.areas h in
+    subst (MadeArea (length env.earlier.bits) (length env.earlier.structs)) (some_same (sym p.there ∙ g)) p.is_made
 has_made {env = env} (rule.cast h i l) m = subst (MadeType (length env.earlier.bits) (length env.earlier.structs)) (sym l.ty) tt
 has_made (rule.cast_literal n u) m = tt
 has_made {env = env} (rule.to_index n h i l) m = subst (MadeType (length env.earlier.bits) (length env.earlier.structs)) (sym l.ty) tt
@@ -225,7 +224,7 @@ has_made {env = env} (rule.by_left {op = op} {c = c} l h u i k) m = subst (MadeT
 has_made {env = env} (rule.by_right {op = op} {d = d} l n h u i k) m = subst (MadeType (length env.earlier.bits) (length env.earlier.structs)) (sym k.ty) (result_made (length env.earlier.bits) (length env.earlier.structs) op (type_of d) (has_made h m))
 has_made {env = env} (rule.bit_field {name = name} {k = k} {t = t} h q f n) m = bit_type_made env.earlier (length env.earlier.bits) (length env.earlier.structs) k name.text t f
 has_made {env = env} (rule.field {name = name} {constant = constant} {region = region} {k = k} {t = t} h q f n) m =
-      field_made env.earlier constant region k name.text t m.0 (ap (λ u. field_type env.earlier u name.text) (sym q) ∙ f)
+    field_made env.earlier constant region k name.text t m.0 (ap (λ u. field_type env.earlier u name.text) (sym q) ∙ f)
 has_made {env = env} (rule.element h q u) m = subst (MadeType (length env.earlier.bits) (length env.earlier.structs)) q (has_made h m)
 has_made (rule.choice_by_first u h v n) m = has_made h m
 has_made (rule.choice_by_second u n h v k) m = has_made h m

@@ -1,15 +1,14 @@
 -- A module stands for one core: its items do up to the numbers of their checks, and the sites give these.
-use Rattle.std.proofs.Common.{◌≡◌, ℕ, ℤ, ◌+◌, ◌-◌, ◌*◌, List, [], ◌∷◌, ◌++◌, map, flat_map, Option, Some, None, Bool, true, false, not, refl, sym, ◌∙◌, ap, ap₂, subst, Result, Ok, Err}
+use Rattle.std.proofs.Common.{◌≡◌, ℕ, ℤ, ◌-◌, List, [], ◌∷◌, ◌++◌, map, flat_map, Option, Bool, true, false, refl, sym, ◌∙◌, ap, ap₂, subst, Result, Ok}
 use Rattle.iv_words.specs.declared.IntKind.{IntKind}
-use Rattle.iv_words.specs.declared.Span.{Span}
-use Rattle.ivory_tree.specs.Syntax.{Word, ItemSyntax, TypeSyntax, InitSyntax, GlobalSyntax, ParamSyntax, HeaderSyntax, ContractSyntax, ProcSyntax, ModuleSyntax}
+use Rattle.ivory_tree.specs.Syntax.{Word, ItemSyntax, TypeSyntax, InitSyntax, GlobalSyntax, ParamSyntax, HeaderSyntax, ContractSyntax, ProcSyntax}
 use Rattle.ivory_tree.specs.declared.items.BitsItem.{BitsItem}
 use Rattle.type_trees.specs.Trees as trees
 use Rattle.area_types.specs.Syntax as types
 use Rattle.area_types.specs.Syntax.{ValueType, Area}
 use Rattle.area_types.specs.Trees.{Written, WrittenRow}
 use Rattle.area_types.specs.Tables.{Table, structs_of}
-use Rattle.area_types.specs.View.{area_of, field_of, struct_of}
+use Rattle.area_types.specs.View.{field_of, struct_of}
 use Rattle.area_types.specs.declared.FieldDef.{FieldDef}
 use Rattle.area_types.specs.declared.StructDef.{StructDef}
 use Rattle.region_check.proofs.Apart.{same_areas}
@@ -24,7 +23,7 @@ use Rattle.source_types.specs.Written.{callee_in}
 use Rattle.typing_rules.specs.Environments.{Env}
 use Rattle.typing_rules.specs.Sites.{first_token}
 use Rattle.typing_rules.specs.Areas.{written}
-use Rattle.typing_rules.specs.Initializers.{constant_of, cell_values, element_values, field_values, zeros, Fills}
+use Rattle.typing_rules.specs.Initializers.{constant_of, cell_values, element_values, field_values}
 use Rattle.typing_rules.specs.Items as item
 use Rattle.typing_rules.specs.Items.{StandsBits, FirstValues, StandsArea, Params, Results, StandsHeader, StandsImport, plain_result, param_cores, behind_header, in_body, at_contract, contract_site, contract_bytes, StandsContract, Contracts, StandsProc}
 use Rattle.typing_rules.specs.WellTyped as module_rule
@@ -34,7 +33,7 @@ use Rattle.typing_rules.proofs.Lookups.{some_same}
 use Rattle.typing_rules.proofs.Relabelled.{expr_by, init_by, inits_by, stmts_by, contract_by, proc_by, procs_checks_by, procs_back}
 use Rattle.typing_rules.proofs.Ranks.{unnumbered, numbered_by, sites_back}
 use Rattle.typing_rules.proofs.Cores.{core_of, under_core}
-use Rattle.typing_rules.proofs.StatementCores.{init_core, init_is, block_core, block_last, block_is}
+use Rattle.typing_rules.proofs.StatementCores.{init_is, block_core, block_last, block_is}
 use Rattle.typing_rules.proofs.CleanItems.{params_keep}
 use Rattle.typing_rules.proofs.Callees.{AllDetermined, determined_last, header_determined}
 

@@ -69,4 +69,3 @@ InStatement n = (rule_1 n ≡ false) × (rule_8 n ≡ false) × (rule_23 n ≡ f
 pub quiet_statement : (context : Context) (reached : Bool) (s : StmtSyntax) → InStatement (AStatement context reached s) → least_broken (AStatement context reached s) ≡ None
 quiet_statement context reached s h = none_at rules (AStatement context reached s)
     (h.0, (refl, (refl, (refl, (refl, (refl, (refl, (h.1, (refl, (refl, (refl, (refl, (refl, (refl, (refl, (refl, (refl, (refl, (refl, (refl, (refl, (refl, (h.2, (refl, (refl, (refl, (refl, (refl, (refl, (refl, (h.3, (h.4, (h.5, (refl, (refl, (refl, (refl, (refl, (refl, (h.6, (h.7, (h.8, (h.9, (h.10, tt))))))))))))))))))))))))))))))))))))))))))))
-

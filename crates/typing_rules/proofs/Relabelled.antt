@@ -1,9 +1,6 @@
 -- Cores with other checks: what a function of a check makes of each check of a core. Two cores that are alike but for the numbers of their
 -- checks are one, where the numbers are what a function of the other parts gives.
-use Rattle.std.proofs.Common.{◌≡◌, ℕ, ℤ, List, [], ◌∷◌, ◌++◌, map, Option, Some, None, Bool, true, false, flat_map, refl, sym, ◌∙◌, ap}
-use Rattle.ivory_tree.specs.declared.expr.BinOp.{BinOp}
-use Rattle.ivory_tree.specs.declared.expr.PrefixOp.{PrefixOp}
-use Rattle.area_types.specs.Syntax.{Area}
+use Rattle.std.proofs.Common.{◌≡◌, List, [], ◌∷◌, ◌++◌, map, Option, Some, None, Bool, true, false, flat_map, refl, sym, ◌∙◌, ap}
 use Rattle.core_tree.specs.Syntax as core
 use Rattle.core_tree.specs.Syntax.{Label, ExprCore, InitCore, InitsCore, CallCore, StmtCore, StmtsCore, ContractCore, ProcCore, type_of}
 use Rattle.core_tree.specs.Checks.{expr_checks, init_checks, inits_checks, call_checks, stmt_checks, stmts_checks, contract_checks, proc_checks}

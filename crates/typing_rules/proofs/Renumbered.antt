@@ -1,5 +1,5 @@
 -- What stands, stands with other numbers of its checks: a core is typed by the kinds and the places of its checks alone.
-use Rattle.std.proofs.Common.{◌≡◌, ℕ, List, [], ◌∷◌, map, Option, Some, None, Bool, true, false, refl, sym, ◌∙◌, ap, ap₂, subst, IsTrue, ℤ}
+use Rattle.std.proofs.Common.{◌≡◌, ℕ, List, [], ◌∷◌, map, Option, refl, sym, ◌∙◌, ap, subst}
 use Rattle.iv_words.specs.declared.Span.{Span}
 use Rattle.ivory_tree.specs.Syntax.{Word, ExprSyntax, Binary, Field, Element, Cond, InitSyntax, InitsSyntax, CallSyntax, StmtSyntax, Let, BlockSyntax, StmtsSyntax, ContractSyntax, ProcSyntax, ItemSyntax}
 use Rattle.area_types.specs.Syntax as types
@@ -12,8 +12,6 @@ use Rattle.core_tree.specs.declared.Check.{Check}
 use Rattle.core_tree.specs.declared.SiteKind.{SiteKind}
 use Rattle.region_check.specs.Calls.{reference_of}
 use Rattle.source_types.specs.Environments.{Earlier}
-use Rattle.source_types.specs.Values.{is_integer, is_index_type, is_reference}
-use Rattle.source_types.specs.Parts.{stored_type, word_type, field_type}
 use Rattle.typing_rules.specs.Environments.{Env, with_local, next}
 use Rattle.typing_rules.specs.Sites.{Labelled, unchecked}
 use Rattle.typing_rules.specs.Expressions as rule

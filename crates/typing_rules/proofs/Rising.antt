@@ -1,14 +1,13 @@
 -- The checks of a core stand in the order of the text, each within the place of the form that makes it.
-use Rattle.std.proofs.Common.{◌≡◌, ℕ, suc, ◌+◌, ◌≤◌, ◌<◌, List, [], ◌∷◌, ◌++◌, map, flat_map, Option, Some, None, Bool, true, false, ◌&&◌, ◌||◌, refl, sym, ◌∙◌, ap, ap₂, subst, All, IfSome, arith, nat_lt, nat_eq, eq-eqb, le_refl, append_assoc, append-nil}
+use Rattle.std.proofs.Common.{◌≡◌, ℕ, ◌+◌, ◌≤◌, ◌<◌, List, [], ◌∷◌, ◌++◌, map, flat_map, Option, Bool, true, false, ◌&&◌, ◌||◌, refl, sym, ◌∙◌, ap, ap₂, subst, All, IfSome, arith, nat_lt, nat_eq, eq-eqb, le_refl, append_assoc, append-nil}
 use Rattle.std.proofs.lemmas.Bool.Decides.{nat_tests}
 use Rattle.std.proofs.lemmas.List.Elements.{All-head, All-tail}
-use Rattle.iv_words.specs.declared.IntKind.{IntKind}
 use Rattle.iv_words.specs.declared.Name.{Name}
 use Rattle.iv_words.specs.declared.Span.{Span}
 use Rattle.ivory_tree.specs.Syntax as syntax
 use Rattle.ivory_tree.specs.Syntax.{Word, ExprSyntax, InitSyntax, InitsSyntax, CallSyntax, StmtSyntax, BlockSyntax, StmtsSyntax, AreaSyntax, ContractSyntax, ProcSyntax, ItemSyntax, ModuleSyntax}
 use Rattle.ivory_tree.specs.Places.{expr_span}
-use Rattle.ivory_tree.specs.Nodes.{Node, At, Nodes, Nil, Cons, place, nodes_from, one, joined, none_or_one, area_node, expr_node, init_node, init_nodes, call_node, stmt_node, block_node, stmt_nodes, header_nodes, contract_node, proc_nodes, item_node, module_nodes}
+use Rattle.ivory_tree.specs.Nodes.{Node, At, Nodes, Nil, Cons, place, nodes_from, one, joined, area_node, expr_node, init_node, init_nodes, call_node, stmt_node, block_node, stmt_nodes, header_nodes, contract_node, proc_nodes, item_node}
 use Rattle.ivory_tree.specs.Formed.{last_end, Placed, PlacedRow, FormedExpr, FormedInit, FormedInits, FormedStmt, FormedBlock, FormedStmts, FormedContract, FormedProc, FormedItem}
 use Rattle.ivory_tree.specs.declared.expr.BinOp.{BinOp}
 use Rattle.ivory_tree.specs.declared.expr.BinOp.TheVariants.{OrElse, AndAlso, Or, Xor, And, Eq, Ne, Lt, Le, Gt, Ge, Shl, Shr, Add, Sub, WrapAdd, WrapSub, Mul, Div, Rem, WrapMul}
@@ -21,14 +20,14 @@ use Rattle.bit_data.specs.declared.BitLayout.{BitLayout}
 use Rattle.core_tree.specs.Syntax as core
 use Rattle.core_tree.specs.Syntax.{Label, ExprCore, InitCore, InitsCore, CallCore, StmtCore, StmtsCore, AreaCore, ImportCore, ContractCore, ProcCore}
 use Rattle.core_tree.specs.Checks.{expr_checks, init_checks, inits_checks, call_checks, stmt_checks, stmts_checks, contract_checks, proc_checks}
-use Rattle.core_tree.specs.Sites.{is_made_before, stands_before, IsFirstOf, Ascends}
+use Rattle.core_tree.specs.Sites.{is_made_before, stands_before, Ascends}
 use Rattle.core_tree.specs.declared.Check.{Check}
 use Rattle.core_tree.specs.declared.SiteKind.{SiteKind}
 use Rattle.core_tree.specs.declared.SiteKind.TheVariants as site
 use Rattle.source_types.specs.Environments.{Earlier}
 use Rattle.source_types.specs.Values.{is_signed_integer}
 use Rattle.typing_rules.specs.Environments.{Env, next}
-use Rattle.typing_rules.specs.Sites.{Labelled, unchecked, divisions, operator_sites, prefix_sites, unless, only_values_of, only_below, cast_sites, index_sites, set_sites, first_token, name_bytes}
+use Rattle.typing_rules.specs.Sites.{Labelled, unchecked, divisions, operator_sites, prefix_sites, unless, only_values_of, only_below, first_token}
 use Rattle.typing_rules.specs.Wholes.{part, is_chain_prefix, is_postfix_prefix}
 use Rattle.typing_rules.specs.Expressions as rule
 use Rattle.typing_rules.specs.Expressions.{Has, Under, chain, field_of, element_of}

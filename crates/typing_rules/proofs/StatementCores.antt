@@ -1,7 +1,6 @@
 -- The cores of calls, initializers and statements, up to the numbers of their checks, and what is known after a statement: as functions of
 -- the text. What stands has this core, so it has no other.
-use Rattle.std.proofs.Common.{◌≡◌, ℕ, List, [], ◌∷◌, map, Option, Some, None, option_map, unwrap_or, Bool, true, false, refl, sym, ◌∙◌, ap, ap₂, slice_get}
-use Rattle.iv_words.specs.declared.Name.{Name}
+use Rattle.std.proofs.Common.{◌≡◌, ℕ, List, [], ◌∷◌, map, Option, Some, None, unwrap_or, Bool, false, refl, sym, ◌∙◌, ap, ap₂, slice_get}
 use Rattle.iv_words.specs.declared.Span.{Span}
 use Rattle.ivory_tree.specs.Syntax as syntax
 use Rattle.ivory_tree.specs.Syntax.{Word, ExprSyntax, InitSyntax, InitsSyntax, CallSyntax, StmtSyntax, BlockSyntax, StmtsSyntax, AreaSyntax}
@@ -26,14 +25,8 @@ use Rattle.typing_rules.specs.Statements as stands
 use Rattle.typing_rules.specs.Statements.{StandsStmt, StandsBlock, StandAll, MayFill, Returns, Marks, own, in_loop, in_counted, without}
 use Rattle.typing_rules.proofs.Relabelled.{expr_by, type_by, init_by, inits_by, maybe_init_by, maybe_by, call_by, stmt_by, stmts_by}
 use Rattle.typing_rules.proofs.Ranks.{unnumbered}
-use Rattle.typing_rules.proofs.Cores.{core_of, has_core, under_core}
+use Rattle.typing_rules.proofs.Cores.{any_type, type_or, core_of, has_core, under_core}
 use Rattle.typing_rules.proofs.Callees.{AllDetermined, call_type_agrees}
-
-abbrev any_type : ValueType
-any_type = types.Truth
-
-abbrev type_or : Option ValueType → ValueType
-type_or o = unwrap_or o any_type
 
 -- ---- calls
 

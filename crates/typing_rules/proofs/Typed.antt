@@ -1,5 +1,5 @@
 -- An expression that breaks no rule is typed.
-use Rattle.std.proofs.Common.{◌≡◌, ℕ, suc, ◌+◌, ◌<◌, List, [], ◌∷◌, ◌++◌, map, length, Option, Some, None, option_map, option_and_then, is_some, Bool, true, false, cond, not, ◌&&◌, ◌||◌, refl, sym, ◌∙◌, ap, subst, IsTrue, ℤ, slice_get}
+use Rattle.std.proofs.Common.{◌≡◌, ℕ, ◌+◌, List, [], ◌∷◌, ◌++◌, map, length, Option, Some, None, option_map, option_and_then, is_some, Bool, true, false, cond, not, ◌&&◌, ◌||◌, refl, sym, ◌∙◌, ap, ℤ, slice_get}
 use Rattle.std.specs.List.{find, position_from, list_any}
 use Rattle.iv_words.specs.Words.{same_word}
 use Rattle.iv_words.specs.declared.IntKind.{IntKind}
@@ -9,7 +9,6 @@ use Rattle.ivory_tree.specs.Syntax as syntax
 use Rattle.ivory_tree.specs.Syntax.{Word, ExprSyntax}
 use Rattle.ivory_tree.specs.Formed.{FormedExpr}
 use Rattle.ivory_tree.specs.declared.expr.BinOp.{BinOp}
-use Rattle.ivory_tree.specs.declared.expr.PrefixOp.{PrefixOp}
 use Rattle.ivory_tree.specs.declared.expr.PrefixOp.TheVariants.{Neg, Not, Flip, Deref}
 use Rattle.ivory_tree.specs.declared.items.BitField.{BitField}
 use Rattle.ivory_tree.specs.declared.items.BitsItem.{BitsItem}
@@ -22,31 +21,31 @@ use Rattle.core_tree.specs.Syntax as core
 use Rattle.core_tree.specs.Syntax.{ExprCore, type_of}
 use Rattle.core_tree.specs.declared.SiteKind.{SiteKind}
 use Rattle.core_tree.specs.declared.Check.{Check}
-use Rattle.source_types.specs.Operators.{is_logic, is_comparison, gives_truth, is_for, is_arithmetic, prefix_is_for}
+use Rattle.source_types.specs.Operators.{is_logic, is_comparison, gives_truth, is_for, prefix_is_for}
 use Rattle.source_types.specs.Settled.{settled}
 use Rattle.source_types.specs.Values.{holds, is_integer, is_index_type, is_bit_data, is_reference, same_type}
-use Rattle.source_types.specs.Environments.{Earlier, AreaDeclared, area_named, number_of_bits, is_area}
-use Rattle.source_types.specs.Parts.{stored_type, struct_behind, length_behind, field_type, field_named, word_type, bit_field_type, bit_field_named, bit_field_number, field_number, element_type}
+use Rattle.source_types.specs.Environments.{Earlier, AreaDeclared, is_area}
+use Rattle.source_types.specs.Parts.{stored_type, length_behind, field_type, field_named, word_type, bit_field_type, bit_field_named, bit_field_number, field_number}
 use Rattle.source_types.specs.Values.{least_unsigned}
 use Rattle.rule_faults.specs.Contexts.{Context, in_scope}
 use Rattle.rule_faults.specs.Types as faults
 use Rattle.rule_faults.specs.Types.{own_type, first_type}
 use Rattle.rule_faults.specs.Wants.{Want, Nothing, Wants, part, wants, wanted_type, of_operand, of_arm, beside, of_cast, of_word, of_new_value, of_index}
 use Rattle.rule_faults.specs.Nodes.{AnExpr}
-use Rattle.rule_faults.specs.Tests.{where_there, where_both}
+use Rattle.rule_faults.specs.Tests.{where_there}
 use Rattle.rule_faults.specs.ExpressionRules.{differ, stores, has_fields, operand_type}
 use Rattle.rule_faults.specs.ExpressionRows.{expr_row}
 use Rattle.rule_faults.specs.FirstFault.{first_of}
-use Rattle.typing_rules.specs.Environments.{Env, Local, local_named, area_number}
-use Rattle.typing_rules.specs.Contexts.{local_of, context_of}
+use Rattle.typing_rules.specs.Environments.{Env, Local, local_named}
+use Rattle.typing_rules.specs.Contexts.{context_of}
 use Rattle.typing_rules.specs.Sites.{Labelled, unchecked, operator_sites, prefix_sites, cast_sites, index_sites, set_sites, first_token, name_bytes}
 use Rattle.typing_rules.specs.Expressions as rule
 use Rattle.typing_rules.specs.Expressions.{Has, Under, result_type, truth_value, chain, field_of, element_of}
-use Rattle.typing_rules.proofs.Lookups.{some_same, and_both, neither, mapped, bound, or_false}
-use Rattle.typing_rules.proofs.TypesAgree.{has_settled, typed, under_typed, in_neither, first_left, first_right}
+use Rattle.typing_rules.proofs.Lookups.{and_both, neither, mapped, bound}
+use Rattle.typing_rules.proofs.TypesAgree.{typed, under_typed, in_neither, first_left, first_right}
 use Rattle.typing_rules.proofs.Clean.{beside_settled, beside_other, beside_logic, beside_whole, not_logic, or_falses}
 use Rattle.typing_rules.proofs.Cores.{bare}
-use Rattle.typing_rules.proofs.Judged.{Judged, Parts, cons_parts, row_parts, sure, no_test}
+use Rattle.typing_rules.proofs.Judged.{Judged, cons_parts, row_parts, sure, no_test}
 use Rattle.typing_rules.proofs.Equal.{type_equal}
 use Rattle.typing_rules.proofs.Made.{MadeType, Ready, has_made, area_there, position_below, below_zero, below_there}
 
@@ -338,7 +337,7 @@ set_can env s e name value can can_value = only_settled refl (λ want h.
     let n = bit_number env.earlier k.number name.text f.value f.there in
     let own_is : own_type (context_of env) e ≡ Some (types.Bits k.number) = typed c.has None ∙ ap Some k.is in
     let wanted : of_new_value (context_of env) e name.text ≡ Wants (bit_field_type f.value) =
-        ap (λ o. wants (option_and_then (λ x. field_type env.earlier x name.text) (faults.only is_bit_data o))) own_is ∙ ap (λ o. wants (option_map bit_field_type o)) f.there in
+    ap (λ o. wants (option_and_then (λ x. field_type env.earlier x name.text) (faults.only is_bit_data o))) own_is ∙ ap (λ o. wants (option_map bit_field_type o)) f.there in
     let d = wanted_typed can_value (bit_field_type f.value) (value_of_bits f.value.truth (least_unsigned f.value.width)) (row_as (context_of env) value wanted rows.1) in
     record {
       core = core.SetField (bare (types.Bits k.number) (set_sites f.value) (first_token s 3)) c.core n.value d.core;
@@ -447,7 +446,7 @@ left_typed env want s at op left right l q can_left can_right p =
     let t = type_of c.core in
     let d = beside_typed can_right t (λ r u o. sym (no_difference (context_of env) left right t u q r (typed c.has None) o p.node.r21)) (row_as (context_of env) right (beside_other (context_of env) want op right left t l q (typed c.has None)) p.second) in
     let operand_is : operand_type (context_of env) want op left right ≡ Some t =
-        first_left left right (faults.type_of (context_of env) (wanted_type (beside (context_of env) want op left right)) left) (own_type (context_of env) right) q ∙ typed c.has (wanted_type (beside (context_of env) want op left right)) in
+    first_left left right (faults.type_of (context_of env) (wanted_type (beside (context_of env) want op left right)) left) (own_type (context_of env) right) q ∙ typed c.has (wanted_type (beside (context_of env) want op left right)) in
     let test : where_there (operand_type (context_of env) want op left right) (λ u. not (is_for op u)) ≡ false = sym (ap (λ b. not b && where_there (operand_type (context_of env) want op left right) (λ u. not (is_for op u))) l) ∙ p.node.r22 in
     let label = bare (result_type op t) (operator_sites op t) at in
     record {
@@ -462,7 +461,7 @@ right_typed env want s at op left right l n q can_left can_right p =
     let t = type_of d.core in
     let c = can_left.wanted_so n t (row_as (context_of env) left (beside_other (context_of env) want op left right t l q (typed d.has None) ∙ ap (λ b. cond b Nothing (Wants t)) n) p.first) in
     let operand_is : operand_type (context_of env) want op left right ≡ Some t =
-        first_right left right (faults.type_of (context_of env) (wanted_type (beside (context_of env) want op left right)) left) (own_type (context_of env) right) n q ∙ typed d.has None in
+    first_right left right (faults.type_of (context_of env) (wanted_type (beside (context_of env) want op left right)) left) (own_type (context_of env) right) n q ∙ typed d.has None in
     let test : where_there (operand_type (context_of env) want op left right) (λ u. not (is_for op u)) ≡ false = sym (ap (λ b. not b && where_there (operand_type (context_of env) want op left right) (λ u. not (is_for op u))) l) ∙ p.node.r22 in
     let label = bare (result_type op t) (operator_sites op t) at in
     record {

@@ -1,6 +1,6 @@
 -- An area, or a type, that breaks no rule exists and is small, and what it is made of is declared.
-use Rattle.std.proofs.Common.{◌≡◌, ℕ, ◌<◌, List, [], ◌∷◌, length, Option, Some, None, option_map, Bool, true, false, cond, not, refl, sym, ◌∙◌, ap, subst, IsTrue}
-use Rattle.std.specs.List.{list_any, position_from}
+use Rattle.std.proofs.Common.{◌≡◌, List, [], length, Some, None, option_map, false, cond, not, refl, ◌∙◌, ap, IsTrue}
+use Rattle.std.specs.List.{list_any}
 use Rattle.iv_words.specs.Words.{same_word}
 use Rattle.ivory_tree.specs.Syntax.{Word, TypeSyntax, TruthType, IntType, IndexType, BitsType, RefType, AreaSyntax, StoredArea, ArrayArea, StructArea}
 use Rattle.ivory_tree.specs.declared.items.BitsItem.{BitsItem}
@@ -13,7 +13,6 @@ use Rattle.source_types.specs.Values.{is_reference}
 use Rattle.source_types.specs.Environments.{Earlier, words}
 use Rattle.source_types.specs.Written.{ref_type, region_in, type_in, area_in}
 use Rattle.rule_faults.specs.Nodes.{Use, Within, AType, AnArea}
-use Rattle.rule_faults.specs.Tests.{where_there}
 use Rattle.rule_faults.specs.ItemRules.{written, rule_9}
 use Rattle.rule_faults.specs.ExpressionRows.{type_row, area_row}
 use Rattle.rule_faults.specs.FirstFault.{first_of}
@@ -67,7 +66,7 @@ area_typed earlier (ArrayArea s n element) f h =
     let p = cons_parts (AnArea earlier (ArrayArea s n element)) (area_row earlier element) h in
     let e = area_typed earlier element f p.rest in
     let exists : area_in earlier (ArrayArea s n element) ≡ Some (types.Array n e.area) =
-        ap (λ b. cond b (option_map (types.Array n) (area_in earlier element)) None) (sure (is_length n) p.first.r8) ∙ ap (option_map (types.Array n)) e.names.exists in
+    ap (λ b. cond b (option_map (types.Array n) (area_in earlier element)) None) (sure (is_length n) p.first.r8) ∙ ap (option_map (types.Array n)) e.names.exists in
     record { area = types.Array n e.area; names = record { exists = exists; small = small_there earlier (ArrayArea s n element) (types.Array n e.area) exists p.first.r9 }; is_made = e.is_made }
 area_typed earlier (StructArea s name) f h =
     let p = cons_parts (AnArea earlier (StructArea s name)) [] h in

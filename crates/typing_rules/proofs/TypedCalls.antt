@@ -1,8 +1,7 @@
 -- A call that breaks no rule stands: the arguments before each say what its region must be.
-use Rattle.std.proofs.Common.{◌≡◌, ℕ, zero, suc, List, [], ◌∷◌, ◌++◌, length, filter, Option, Some, None, option_map, option_and_then, unwrap_or, is_some, Bool, true, false, cond, not, ◌&&◌, ◌||◌, refl, sym, ◌∙◌, ap, subst, IsTrue, nat_eq, eqb-true, eq-eqb}
+use Rattle.std.proofs.Common.{◌≡◌, ℕ, List, [], ◌∷◌, ◌++◌, length, filter, Option, Some, None, option_map, option_and_then, unwrap_or, Bool, true, false, cond, not, ◌&&◌, ◌||◌, refl, sym, ◌∙◌, ap, subst, IsTrue, nat_eq, eqb-true, eq-eqb}
 use Rattle.std.specs.List.{find, position_from, list_any}
 use Rattle.iv_words.specs.Words.{same_word}
-use Rattle.iv_words.specs.declared.Span.{Span}
 use Rattle.ivory_tree.specs.Syntax as syntax
 use Rattle.ivory_tree.specs.Syntax.{Word, ExprSyntax, CallSyntax}
 use Rattle.ivory_tree.specs.Formed.{FormedExpr}
@@ -16,12 +15,12 @@ use Rattle.area_types.specs.declared.region.Region.{Region}
 use Rattle.area_types.specs.declared.region.Region.TheVariants.{Global}
 use Rattle.region_check.specs.Calls.{Reference, reference_of, Passed, FitsReference, Fits, AllFit, may_stand_for}
 use Rattle.region_check.specs.Substitutions.{applied}
-use Rattle.region_check.specs.Faults.{known, required, Allows, Accepts, AcceptsPassed, AcceptedAfter}
+use Rattle.region_check.specs.Faults.{known, required, Allows, AcceptsPassed, AcceptedAfter}
 use Rattle.region_check.proofs.Accepted.{accepted_fit}
 use Rattle.core_tree.specs.Syntax.{ExprCore, CallCore, type_of}
-use Rattle.source_types.specs.Operators.{is_logic, is_comparison, gives_truth}
+use Rattle.source_types.specs.Operators.{gives_truth}
 use Rattle.source_types.specs.Settled.{settled}
-use Rattle.source_types.specs.Values.{holds, same_region, same_area, is_reference}
+use Rattle.source_types.specs.Values.{holds, same_region}
 use Rattle.source_types.specs.Environments.{Earlier, Callee, callee_named}
 use Rattle.rule_faults.specs.Contexts.{Context}
 use Rattle.rule_faults.specs.Types.{own_type}
@@ -33,15 +32,14 @@ use Rattle.rule_faults.specs.ExpressionRows.{expr_row, matched, matched_all, arg
 use Rattle.rule_faults.specs.FirstFault.{first_of}
 use Rattle.typing_rules.specs.Environments.{Env, is_import, is_procedure, of_kind, callee_number}
 use Rattle.typing_rules.specs.Contexts.{context_of}
-use Rattle.typing_rules.specs.Expressions.{Has, Under}
 use Rattle.typing_rules.specs.Calls.{Fit, no_args, value_arg, reference_arg, Calls}
-use Rattle.typing_rules.proofs.Lookups.{some_same, and_both, neither}
+use Rattle.typing_rules.proofs.Lookups.{some_same, neither}
 use Rattle.typing_rules.proofs.TypesAgree.{typed}
 use Rattle.typing_rules.proofs.Clean.{or_falses, not_logic}
-use Rattle.typing_rules.proofs.Judged.{Judged, cons_parts, row_parts, sure, no_test}
+use Rattle.typing_rules.proofs.Judged.{cons_parts, row_parts, sure, no_test}
 use Rattle.typing_rules.proofs.Equal.{region_equal, area_equal}
-use Rattle.typing_rules.proofs.Made.{Ready, EachParam, CalleeThere, callee_there}
-use Rattle.typing_rules.proofs.Typed.{Placed, any_placed, any_found, There, there, Typed, TypedUnder, Can, can, at_head, wanted_typed, BinaryParts, binary_parts, choice_parts}
+use Rattle.typing_rules.proofs.Made.{Ready, EachParam, callee_there}
+use Rattle.typing_rules.proofs.Typed.{any_placed, any_found, There, there, Typed, TypedUnder, Can, can, at_head, wanted_typed, binary_parts, choice_parts}
 
 -- ---- no literal is a reference
 
@@ -258,7 +256,7 @@ call_typed env m call formed h =
     let k = any_found test env.earlier.callees (sure (list_any test env.earlier.callees) p.first.r7) in
     let known_callee = callee_there (length env.earlier.bits) (length env.earlier.structs) test env.earlier.callees k.value m.0.callees k.at in
     let lengths = eqb-true (length k.value.params) (length call.args)
-            (sure (nat_eq (length k.value.params) (length call.args)) (no_test (callee_named env.earlier call.name.text) k.value (λ c. not (nat_eq (length c.params) (length call.args))) k.at p.first.r34)) in
+    (sure (nat_eq (length k.value.params) (length call.args)) (no_test (callee_named env.earlier call.name.text) k.value (λ c. not (nat_eq (length c.params) (length call.args))) k.at p.first.r34)) in
     let rows : first_of (args_row (context_of env) [] k.value.params call.args) ≡ None = ap (λ o. first_of (args_row (context_of env) [] (params_of o) call.args)) (sym k.at) ∙ p.rest in
     let args = args_typed env m (length env.earlier.bits) (length env.earlier.structs) [] k.value.params call.args known_callee.params lengths formed rows in
     let xs = matched_all (context_of env) k.value.params call.args in

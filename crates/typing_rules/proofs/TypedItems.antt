@@ -1,18 +1,16 @@
 -- Items that break no rule stand.
-use Rattle.std.proofs.Common.{◌≡◌, ℕ, zero, suc, ◌+◌, ◌≤◌, ◌<◌, ℤ, List, [], ◌∷◌, ◌++◌, length, map, Option, Some, None, option_map, option_and_then, is_some, IfSome, Bool, true, false, cond, not, ◌&&◌, ◌||◌, refl, sym, ◌∙◌, ap, ap₂, subst, IsTrue, All, arith, nat_eq, sum_by, filter_map, Result, Ok, Err, length-append, le_refl}
-use Rattle.std.specs.List.{list_any, list_all, position_from}
+use Rattle.std.proofs.Common.{◌≡◌, ℕ, ◌≤◌, ℤ, List, [], ◌∷◌, ◌++◌, length, map, Option, Some, None, option_map, option_and_then, is_some, IfSome, Bool, true, false, cond, not, ◌&&◌, ◌||◌, refl, sym, ◌∙◌, ap, subst, IsTrue, All, arith, nat_eq, filter_map, Err, length-append, le_refl}
+use Rattle.std.specs.List.{list_any, list_all}
 use Rattle.std.proofs.lemmas.List.Elements.{All-head, All-tail}
 use Rattle.iv_words.specs.Words.{same_word}
 use Rattle.iv_words.specs.Kinds.{width, is_signed}
-use Rattle.iv_words.specs.declared.IntKind.{IntKind}
 use Rattle.iv_words.specs.declared.Span.{Span}
 use Rattle.ivory_tree.specs.Syntax as syntax
 use Rattle.ivory_tree.specs.Syntax.{Word, TypeSyntax, TruthType, IntType, IndexType, BitsType, RefType, AreaSyntax, FieldSyntax, StructSyntax, GlobalSyntax, ParamSyntax, HeaderSyntax, ContractSyntax, ProcSyntax, InitSyntax, ItemSyntax}
 use Rattle.ivory_tree.specs.declared.items.BitField.{BitField}
 use Rattle.ivory_tree.specs.declared.items.BitsItem.{BitsItem}
-use Rattle.ivory_tree.specs.declared.types.RegionText.{RegionText}
 use Rattle.ivory_tree.specs.declared.types.RegionText.TheVariants as region
-use Rattle.ivory_tree.specs.Formed.{FormedType, FormedField, FormedParam, FormedHeader, FormedContract, FormedProc, FormedInit, FormedArea, FormedItem}
+use Rattle.ivory_tree.specs.Formed.{FormedType, FormedField, FormedParam, FormedHeader, FormedContract, FormedProc, FormedInit, FormedItem}
 use Rattle.type_trees.specs.Trees as trees
 use Rattle.area_types.specs.Syntax as types
 use Rattle.area_types.specs.Syntax.{ValueType, Area, StructType}
@@ -20,13 +18,11 @@ use Rattle.area_types.specs.Tables.{is_small}
 use Rattle.area_types.specs.Trees.{fields_of, trees_of}
 use Rattle.area_types.specs.declared.region.Region.{Region}
 use Rattle.area_types.specs.declared.region.Region.TheVariants.{Global, Param}
-use Rattle.bit_data.specs.Layouts.{laid_out, is_filled, bits_of, is_name_of, first_fault, faultless, placed_from}
+use Rattle.bit_data.specs.Layouts.{is_filled, bits_of, is_name_of, first_fault, faultless, placed_from}
 use Rattle.bit_data.specs.declared.FieldWish.{FieldWish}
 use Rattle.bit_data.specs.declared.BitLayout.{BitLayout}
-use Rattle.bit_data.specs.declared.LayoutFault.{LayoutFault}
 use Rattle.bit_data.specs.declared.LayoutFault.TheVariants.{WidthSum, TwiceNamed, EmptyField}
 use Rattle.control_effects.specs.Falling.{block_falls}
-use Rattle.core_tree.specs.Syntax as core
 use Rattle.core_tree.specs.Syntax.{AreaCore, ImportCore, ContractCore, ProcCore}
 use Rattle.source_types.specs.Environments.{Earlier, AreaDeclared, Callee, words, has_word, is_item}
 use Rattle.source_types.specs.Items.{after}
@@ -36,21 +32,20 @@ use Rattle.rule_faults.specs.Contexts as faults
 use Rattle.rule_faults.specs.Wants.{Wants}
 use Rattle.rule_faults.specs.Nodes.{Use, Boundary, Exported, Imported, Inner, ForParam, ForResult, AnItem, ABitField, AField, AParam, AType, AContract, ABlock}
 use Rattle.rule_faults.specs.Tests.{where_there}
-use Rattle.rule_faults.specs.ItemRules.{type_but_region, gives_other_cells, written_struct, rule_9, rule_10}
+use Rattle.rule_faults.specs.ItemRules.{type_but_region, gives_other_cells, written_struct}
 use Rattle.rule_faults.specs.ExpressionRows.{expr_row, type_row, area_row}
 use Rattle.rule_faults.specs.StatementRows.{block_row, stmts_row}
 use Rattle.rule_faults.specs.ItemRows as rows
 use Rattle.rule_faults.specs.ItemRows.{bit_fields_row, fields_row, params_row, result_row, header_row, contracts_row, body_row, proc_row, boundary_of, init_rows, within_item, items_row}
 use Rattle.rule_faults.specs.FirstFault.{first_of}
-use Rattle.typing_rules.specs.Environments.{Env, Local, with_local}
+use Rattle.typing_rules.specs.Environments.{Env, with_local}
 use Rattle.typing_rules.specs.Contexts.{context_of}
 use Rattle.typing_rules.specs.Sites.{first_token}
-use Rattle.typing_rules.specs.Areas.{NamesType, NamesArea}
 use Rattle.typing_rules.specs.Items as item
 use Rattle.typing_rules.specs.Items.{wish_of, StandsBits, Fields, StandsStruct, FirstValues, StandsArea, Params, Results, StandsHeader, none_or_plain, plain_result, writes_plain, StandsImport, with_params, param_cores, behind_header, in_body, at_contract, contract_site, contract_bytes, Contracts, StandsProc}
 use Rattle.typing_rules.specs.WellTyped as module_rule
 use Rattle.typing_rules.specs.WellTyped.{outside, at_header, StandItems}
-use Rattle.typing_rules.proofs.Lookups.{some_same, any_last, and_both, neither, or_false}
+use Rattle.typing_rules.proofs.Lookups.{any_last, neither}
 use Rattle.typing_rules.proofs.CleanItems.{but_region, crosses, leaves, leave, at_place, Agrees, agrees_next, behind_agrees, fields_there, field_at, same_widths, results_agree, params_keep}
 use Rattle.typing_rules.proofs.Callees.{AllDetermined, determined_last, header_determined}
 use Rattle.typing_rules.proofs.Judged.{Judged, cons_parts, row_parts, sure, no_test}
@@ -139,7 +134,7 @@ bits_typed : (earlier : Earlier) (i : BitsItem) → Judged (AnItem earlier (synt
 unfolding bits_layout
 bits_typed earlier i j h =
     let filled : is_filled i.word (map wish_of i.fields) ≡ true =
-            unsigned_and_full (is_signed i.word) (nat_eq (bits_of (map wish_of i.fields)) (width i.word)) (ap (λ n. is_signed i.word || not (nat_eq n (width i.word))) (same_widths i.fields) ∙ j.r10) in
+    unsigned_and_full (is_signed i.word) (nat_eq (bits_of (map wish_of i.fields)) (width i.word)) (ap (λ n. is_signed i.word || not (nat_eq n (width i.word))) (same_widths i.fields) ∙ j.r10) in
     record {
       unused = j.r2;
       name = refl;
@@ -364,8 +359,8 @@ header_there names earlier import h boundary t =
     let e = results_agree t.result.stand in
     record { params = t.params.there; result = subst (MadeMaybe (length earlier.bits) (length earlier.structs)) e.1 t.result.is_made; gives = λ g n. none_not t.result.result (e.0 ∙ g) (e.1 ∙ n) }
 
-header_stands : (names : List Word) (earlier : Earlier) (h : HeaderSyntax) (boundary : Boundary) (i : ItemSyntax) (t : HeaderTyped names earlier h boundary) → is_item earlier h.name.text ≡ false → StandsHeader (at_header names earlier h) h t.params.params_types t.result.result
-header_stands names earlier h boundary i t unused = record { unused = unused; params_stand = t.params.stand; result_stands = t.result.stand }
+header_stands : (names : List Word) (earlier : Earlier) (h : HeaderSyntax) (boundary : Boundary) (t : HeaderTyped names earlier h boundary) → is_item earlier h.name.text ≡ false → StandsHeader (at_header names earlier h) h t.params.params_types t.result.result
+header_stands names earlier h boundary t unused = record { unused = unused; params_stand = t.params.stand; result_stands = t.result.stand }
 
 -- ---- procedures
 
@@ -416,7 +411,7 @@ proc_typed names earlier p g d f unused h =
     let t = header_typed names earlier p.header (boundary_of p.exported) f.0 r.0 in
     let ts = t.params.params_types in
     let res = t.result.result in
-    let header = header_stands names earlier p.header (boundary_of p.exported) (syntax.Procedure p) t unused in
+    let header = header_stands names earlier p.header (boundary_of p.exported) t unused in
     let env0 = record (at_header names earlier p.header) { result = res } in
     let behind = behind_header (at_header names earlier p.header) p ts res in
     let kept = params_keep env0 p.header.params ts in
@@ -463,7 +458,7 @@ import_typed names earlier h f unused k =
       core = record { name = h.name.text; params = t.params.params_types; result = plain_result t.result.result };
       stands = record {
         result = t.result.result;
-        header = header_stands names earlier h Imported (syntax.Import h) t unused;
+        header = header_stands names earlier h Imported t unused;
         name = refl;
         gives = refl;
         result_plain = left_plain t.result.result t.result.leaving;
@@ -504,7 +499,7 @@ items_typed names (syntax.Struct i ∷ items) earlier g d f h =
     let grown = longer earlier.structs new in
     let P : types.Field → Type 0 = λ x. MadeArea b (length structs) x.area in
     let given = more_given earlier earlier.bits structs (le_refl b) grown g
-            (last_struct P earlier.structs new (more_structs b s b (length structs) (le_refl b) grown earlier.structs g.structs) (more_fields b s b (length structs) (le_refl b) grown new.fields t.each)) in
+    (last_struct P earlier.structs new (more_structs b s b (length structs) (le_refl b) grown earlier.structs g.structs) (more_fields b s b (length structs) (le_refl b) grown new.fields t.each)) in
     let more = items_typed names items (after earlier (syntax.Struct i)) given d (All-tail FormedItem (syntax.Struct i) items f) r.1 in
     record { end = more.end; layouts = more.layouts; areas = more.areas; imports = more.imports; procs = more.procs; stand = module_rule.struct t.stands more.stand }
 items_typed names (syntax.Global i ∷ items) earlier g d f h =

@@ -1,6 +1,5 @@
 -- A statement that breaks no rule stands.
-use Rattle.std.proofs.Common.{◌≡◌, ℕ, zero, suc, ◌+◌, ◌≤◌, ◌<◌, List, [], ◌∷◌, ◌++◌, length, Option, Some, None, option_map, option_and_then, is_some, IfSome, Bool, true, false, cond, not, ◌&&◌, ◌||◌, refl, sym, ◌∙◌, ap, subst, IsTrue, arith, nat_lt, slice_get}
-use Rattle.std.specs.List.{list_any}
+use Rattle.std.proofs.Common.{◌≡◌, ℕ, zero, suc, ◌+◌, ◌≤◌, List, [], ◌∷◌, ◌++◌, length, Option, Some, None, option_map, option_and_then, is_some, IfSome, Bool, true, false, cond, not, ◌&&◌, ◌||◌, refl, sym, ◌∙◌, ap, subst, arith, nat_lt, slice_get}
 use Rattle.std.proofs.lemmas.Bool.Decides.{nat_tests}
 use Rattle.iv_words.specs.Words.{same_word}
 use Rattle.iv_words.specs.declared.Name.{Name}
@@ -12,24 +11,23 @@ use Rattle.area_types.specs.Syntax as types
 use Rattle.area_types.specs.Syntax.{ValueType, Area, StructType}
 use Rattle.area_types.specs.Tables.{is_length}
 use Rattle.area_types.specs.declared.region.Region.{Region}
-use Rattle.area_types.specs.declared.region.Region.TheVariants.{Own}
 use Rattle.region_check.specs.Calls.{Reference, reference_of, may_stand_for}
 use Rattle.region_check.specs.Substitutions.{applied}
 use Rattle.alloc_effects.specs.declared.allowed.Narrowing.TheVariants as narrowing
-use Rattle.control_effects.specs.Falling.{stmt_falls, block_falls}
+use Rattle.control_effects.specs.Falling.{stmt_falls}
 use Rattle.core_tree.specs.Syntax as core
 use Rattle.core_tree.specs.Syntax.{ExprCore, InitCore, InitsCore, CallCore, StmtCore, StmtsCore, type_of}
 use Rattle.core_tree.specs.declared.SiteKind.TheVariants as site
 use Rattle.source_types.specs.Environments.{Callee, callee_named, has_word}
 use Rattle.source_types.specs.Parts.{stored_type}
 use Rattle.source_types.specs.Settled.{settled}
-use Rattle.source_types.specs.Values.{is_reference, same_area, same_region}
+use Rattle.source_types.specs.Values.{same_area, same_region}
 use Rattle.source_types.specs.Written.{index_type, area_in}
 use Rattle.rule_faults.specs.Contexts as faults
 use Rattle.rule_faults.specs.Contexts.{Context, is_taken}
 use Rattle.rule_faults.specs.Types.{own_type}
-use Rattle.rule_faults.specs.Wants.{Want, Nothing, Unknown, Wants, Returns as ReturnsFor, wants, of_stored, of_returned}
-use Rattle.rule_faults.specs.Nodes.{Node, ABlock, AStatement, AnInit, AnExpr}
+use Rattle.rule_faults.specs.Wants.{Nothing, Unknown, Wants, wants, of_stored, of_returned}
+use Rattle.rule_faults.specs.Nodes.{ABlock, AStatement, AnInit}
 use Rattle.rule_faults.specs.Tests.{where_there, where_both}
 use Rattle.rule_faults.specs.ItemRules.{inits_count, is_first_value, rule_17}
 use Rattle.rule_faults.specs.ExpressionRules.{stores, fits}
@@ -41,23 +39,22 @@ use Rattle.rule_faults.specs.FirstFault.{first_of}
 use Rattle.typing_rules.specs.Environments.{Env, Local, with_local, is_free, next, after_block}
 use Rattle.typing_rules.specs.Contexts.{local_of, context_of}
 use Rattle.typing_rules.specs.Sites.{first_token}
-use Rattle.typing_rules.specs.Expressions.{Has, Under}
 use Rattle.typing_rules.specs.Calls.{Calls}
 use Rattle.typing_rules.specs.Initializers.{Fills, FillElements, FillFields, stored, array, struct, no_elements, more_elements, no_fields, more_fields, has_constants, have_constants}
 use Rattle.typing_rules.specs.Statements as stands
 use Rattle.typing_rules.specs.Statements.{StandsStmt, StandsBlock, StandAll, MayFill, Returns, Copies, own, in_loop, in_counted, without}
-use Rattle.typing_rules.proofs.Lookups.{some_same, not_true, any_map, mapped, and_both}
+use Rattle.typing_rules.proofs.Lookups.{any_map, and_both}
 use Rattle.typing_rules.proofs.TypesAgree.{typed}
 use Rattle.typing_rules.proofs.CleanInits.{From, from_next, field_place, same_constant}
 use Rattle.typing_rules.proofs.CleanStatements.{after_agrees, counted_same}
 use Rattle.typing_rules.proofs.StatementCores.{callees_after}
 use Rattle.typing_rules.proofs.Callees.{AllDetermined}
-use Rattle.typing_rules.proofs.Judged.{Judged, Parts, cons_parts, row_parts, sure, no_test}
+use Rattle.typing_rules.proofs.Judged.{Judged, cons_parts, row_parts, sure, no_test}
 use Rattle.typing_rules.proofs.Equal.{region_equal, area_equal}
 use Rattle.typing_rules.proofs.Made.{MadeType, MadeArea, EachField, EachLocal, MadeMaybe, Ready, has_made, struct_there, callee_there, below_there}
-use Rattle.typing_rules.proofs.Typed.{There, there, Typed, TypedUnder, Can, can, at_head, alone_typed, wanted_typed}
-use Rattle.typing_rules.proofs.TypedCalls.{CallTyped, call_typed, no_reference}
-use Rattle.typing_rules.proofs.TypedAreas.{AreaNamed, area_typed}
+use Rattle.typing_rules.proofs.Typed.{there, TypedUnder, Can, can, at_head, alone_typed, wanted_typed}
+use Rattle.typing_rules.proofs.TypedCalls.{call_typed, no_reference}
+use Rattle.typing_rules.proofs.TypedAreas.{area_typed}
 
 -- ---- initializers
 
@@ -476,6 +473,6 @@ mutual
       let q = row_parts (stmt_row (after_stmt (context_of env) s) (stmt_falls s) next_one) (stmts_row (after_stmt (after_stmt (context_of env) s) next_one) (stmt_falls s && stmt_falls next_one) rest) r.1 in
       let falls : stmt_falls s ≡ true = head_reached (after_stmt (context_of env) s) (stmt_falls s) next_one q.0 in
       let row : first_of (stmts_row (context_of a.after) true (syntax.MoreStmts next_one rest)) ≡ None =
-          ap (λ x. first_of (stmts_row x true (syntax.MoreStmts next_one rest))) (after_agrees a.stands d) ∙ ap (λ b. first_of (stmts_row (after_stmt (context_of env) s) b (syntax.MoreStmts next_one rest))) (sym falls) ∙ r.1 in
+      ap (λ x. first_of (stmts_row x true (syntax.MoreStmts next_one rest))) (after_agrees a.stands d) ∙ ap (λ b. first_of (stmts_row (after_stmt (context_of env) s) b (syntax.MoreStmts next_one rest))) (sym falls) ∙ r.1 in
       let b = all_typed (syntax.MoreStmts next_one rest) a.after a.ready (callees_after a.stands d) f.1 row in
       record { last = b.last; core = core.MoreStmts a.core b.core; stands = stands.more_stand a.stands falls b.stands }

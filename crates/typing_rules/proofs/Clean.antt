@@ -1,6 +1,5 @@
 -- What is typed breaks no rule: each node of an expression is quiet.
-use Rattle.std.proofs.Common.{◌≡◌, ℕ, ◌+◌, List, [], ◌∷◌, ◌++◌, Option, Some, None, Bool, true, false, cond, not, ◌&&◌, ◌||◌, refl, ◌∙◌, ap, IsTrue}
-use Rattle.std.specs.List.{list_any, find, position_from}
+use Rattle.std.proofs.Common.{◌≡◌, [], ◌∷◌, ◌++◌, Option, Some, None, Bool, true, false, cond, not, ◌&&◌, ◌||◌, refl, ◌∙◌, ap, IsTrue}
 use Rattle.iv_words.specs.Words.{same_word}
 use Rattle.ivory_tree.specs.Syntax as syntax
 use Rattle.ivory_tree.specs.Syntax.{Word, ExprSyntax}
@@ -30,28 +29,11 @@ use Rattle.typing_rules.specs.Environments.{Env}
 use Rattle.typing_rules.specs.Contexts.{context_of}
 use Rattle.typing_rules.specs.Expressions as rule
 use Rattle.typing_rules.specs.Expressions.{Has, Under}
+use Rattle.typing_rules.proofs.Lookups.{found_any, placed_any}
 use Rattle.typing_rules.proofs.TypesAgree.{has_settled, typed, under_typed, in_both, in_neither, first_left}
 use Rattle.typing_rules.proofs.Quiet.{AsWanted, InForm, quiet, quiet_cons, quiet_append, type_same, nothing_wanted, type_wanted, unsettled_wanted}
 
 -- ---- what is named is there
-
-area_there : (name : Word) (areas : List AreaDeclared) (a : AreaDeclared) → find (λ (x : AreaDeclared). same_word x.name name) areas ≡ Some a → list_any (λ (x : AreaDeclared). same_word x.name name) areas ≡ true
-area_there name [] a h = let no : ⊥ = cc in absurd no
-area_there name (x ∷ areas) a h = go (area_there name areas a) (same_word x.name name) refl h
-  where
-    go : (find (λ (y : AreaDeclared). same_word y.name name) areas ≡ Some a → list_any (λ (y : AreaDeclared). same_word y.name name) areas ≡ true)
-        → (b : Bool) → same_word x.name name ≡ b → cond b (Some x) (find (λ (y : AreaDeclared). same_word y.name name) areas) ≡ Some a → list_any (λ (y : AreaDeclared). same_word y.name name) (x ∷ areas) ≡ true
-    go ih true e g = rw e refl
-    go ih false e g = rw (e, ih g) refl
-
-bits_there : (name : Word) (i : ℕ) (items : List BitsItem) (k : ℕ) → position_from (λ (x : BitsItem). same_word x.name.text name) i items ≡ Some k → list_any (λ (x : BitsItem). same_word x.name.text name) items ≡ true
-bits_there name i [] k h = let no : ⊥ = cc in absurd no
-bits_there name i (x ∷ items) k h = go (bits_there name (i + 1) items k) (same_word x.name.text name) refl h
-  where
-    go : (position_from (λ (y : BitsItem). same_word y.name.text name) (i + 1) items ≡ Some k → list_any (λ (y : BitsItem). same_word y.name.text name) items ≡ true)
-        → (b : Bool) → same_word x.name.text name ≡ b → cond b (Some i) (position_from (λ (y : BitsItem). same_word y.name.text name) (i + 1) items) ≡ Some k → list_any (λ (y : BitsItem). same_word y.name.text name) (x ∷ items) ≡ true
-    go ih true e g = rw e refl
-    go ih false e g = rw (e, ih g) refl
 
 word_bits : (earlier : Earlier) (t w : ValueType) → word_type earlier t ≡ Some w → is_bit_data t ≡ true
 word_bits earlier (types.Bits k) w h = refl
@@ -65,24 +47,24 @@ word_bits earlier (types.Ref c r a) w h = let no : ⊥ = cc in absurd no
 operand_or : (context : Context) (t : ValueType) (e : ExprSyntax) → Want
 operand_or context t e = cond (settled e) Nothing (Wants t)
 
-beside_settled : (context : Context) (want : Want) (op : BinOp) (x y : ExprSyntax) → is_logic op ≡ false → settled x ≡ true → beside context want op x y ≡ Nothing
+pub beside_settled : (context : Context) (want : Want) (op : BinOp) (x y : ExprSyntax) → is_logic op ≡ false → settled x ≡ true → beside context want op x y ≡ Nothing
 beside_settled context want op x y l h = go (is_comparison op) refl
   where
     go : (b : Bool) → is_comparison op ≡ b → beside context want op x y ≡ Nothing
     go true e = rw (l, e, h) refl
     go false e = rw (l, e, h) refl
 
-beside_other : (context : Context) (want : Want) (op : BinOp) (x y : ExprSyntax) (t : ValueType) → is_logic op ≡ false → settled y ≡ true → own_type context y ≡ Some t → beside context want op x y ≡ cond (settled x) Nothing (Wants t)
+pub beside_other : (context : Context) (want : Want) (op : BinOp) (x y : ExprSyntax) (t : ValueType) → is_logic op ≡ false → settled y ≡ true → own_type context y ≡ Some t → beside context want op x y ≡ cond (settled x) Nothing (Wants t)
 beside_other context want op x y t l h g = go (is_comparison op) refl
   where
     go : (b : Bool) → is_comparison op ≡ b → beside context want op x y ≡ cond (settled x) Nothing (Wants t)
     go true e = rw (l, e, h, g) refl
     go false e = rw (l, e, h, g) refl
 
-beside_logic : (context : Context) (want : Want) (op : BinOp) (x y : ExprSyntax) → is_logic op ≡ true → beside context want op x y ≡ Wants types.Truth
+pub beside_logic : (context : Context) (want : Want) (op : BinOp) (x y : ExprSyntax) → is_logic op ≡ true → beside context want op x y ≡ Wants types.Truth
 beside_logic context want op x y l = rw l refl
 
-not_logic : (op : BinOp) → gives_truth op ≡ false → (is_logic op ≡ false) × (is_comparison op ≡ false)
+pub not_logic : (op : BinOp) → gives_truth op ≡ false → (is_logic op ≡ false) × (is_comparison op ≡ false)
 not_logic op h = go (is_logic op) (is_comparison op) refl refl h
   where
     go : (a b : Bool) → is_logic op ≡ a → is_comparison op ≡ b → a || b ≡ false → (is_logic op ≡ false) × (is_comparison op ≡ false)
@@ -90,7 +72,7 @@ not_logic op h = go (is_logic op) (is_comparison op) refl refl h
     go true b e f g = let no : ⊥ = cc in absurd no
     go false true e f g = let no : ⊥ = cc in absurd no
 
-beside_whole : (context : Context) (op : BinOp) (x y : ExprSyntax) (t : ValueType) → gives_truth op ≡ false → settled x ≡ false → settled y ≡ false → beside context (Wants t) op x y ≡ Wants t
+pub beside_whole : (context : Context) (op : BinOp) (x y : ExprSyntax) (t : ValueType) → gives_truth op ≡ false → settled x ≡ false → settled y ≡ false → beside context (Wants t) op x y ≡ Wants t
 beside_whole context op x y t g h k = let p = not_logic op g in rw (p.0, p.1, h, k) refl
 
 -- ---- no two types
@@ -136,7 +118,7 @@ operator_left context want op x y t l h f i =
     ap (λ o. not (is_logic op) && where_there o (λ u. not (is_for op u))) p ∙ rw (l, i) refl
 
 -- an unsettled expression has no type of its own
-or_falses : (a b c : Bool) → a || b || c ≡ false → (a ≡ false) × (b ≡ false) × (c ≡ false)
+pub or_falses : (a b c : Bool) → a || b || c ≡ false → (a ≡ false) × (b ≡ false) × (c ≡ false)
 or_falses false false false h = (refl, refl, refl)
 or_falses true b c h = let no : ⊥ = cc in absurd no
 or_falses false true c h = let no : ⊥ = cc in absurd no
@@ -173,7 +155,7 @@ pub record UnderClean (context : Context) (t : ValueType) (e : ExprSyntax) : Typ
   pub alone : settled e ≡ true → first_of (expr_row context Nothing e) ≡ None
 
 -- the row of an expression with another name of what is wanted
-row_at : (context : Context) (e : ExprSyntax) (v : Want) {w : Want} → v ≡ w → first_of (expr_row context w e) ≡ None → first_of (expr_row context v e) ≡ None
+pub row_at : (context : Context) (e : ExprSyntax) (v : Want) {w : Want} → v ≡ w → first_of (expr_row context w e) ≡ None → first_of (expr_row context v e) ≡ None
 row_at context e v q h = ap (λ x. first_of (expr_row context x e)) q ∙ h
 
 -- a node with no, one, two or three expressions in it
@@ -210,7 +192,7 @@ mutual
   clean {env = env} (rule.local {s = s} {name = name} {l = l} h) want w =
       node_alone (context_of env) want (syntax.Variable s name) w (let p = in_both name env.scope l h in rw p.0 refl, refl, refl, refl, refl, refl, refl, refl, refl, refl, refl, refl, refl, refl)
   clean {env = env} (rule.area_name {s = s} {name = name} {a = a} n h g k) want w =
-      node_alone (context_of env) want (syntax.Variable s name) w (rw (in_neither name env.scope n, area_there name env.earlier.areas a h) refl, refl, refl, refl, refl, refl, refl, refl, refl, refl, refl, refl, refl, refl)
+      node_alone (context_of env) want (syntax.Variable s name) w (rw (in_neither name env.scope n, found_any (λ (x : AreaDeclared). same_word x.name name) env.earlier.areas a h) refl, refl, refl, refl, refl, refl, refl, refl, refl, refl, refl, refl, refl, refl)
   clean {env = env} (rule.cast {s = s} {kind = kind} {e = e} h i l) want w =
       node_with (context_of env) want (syntax.Cast s kind e) w (refl, refl, refl, refl, refl, refl, refl, refl, refl, refl, rw (has_settled h, typed h None, i) refl, refl, refl, refl)
       e (of_cast kind e) (row_at (context_of env) e (of_cast kind e) (rw (has_settled h) refl) (clean h Nothing (nothing_wanted (context_of env) e (has_settled h))))
@@ -224,7 +206,7 @@ mutual
       node_with (context_of env) want (syntax.WrapIndex s n e) w (refl, refl, rw k refl, refl, refl, refl, refl, refl, refl, refl, refl, rw (typed h None, i) refl, refl, refl)
       e Nothing (clean h Nothing (nothing_wanted (context_of env) e (has_settled h)))
   clean {env = env} (rule.make_bits {s = s} {name = name} {e = e} {k = k} n v u) want w =
-      node_with (context_of env) want (syntax.MakeBits s name e) w (refl, rw (bits_there name 0 env.earlier.bits k n) refl, refl, refl, refl, refl, refl, refl, refl, refl, refl, refl, refl, refl)
+      node_with (context_of env) want (syntax.MakeBits s name e) w (refl, rw (placed_any (λ (x : BitsItem). same_word x.name.text name) 0 env.earlier.bits k n) refl, refl, refl, refl, refl, refl, refl, refl, refl, refl, refl, refl, refl)
       e (of_word (context_of env) name) (row_at (context_of env) e (of_word (context_of env) name) (rw (n, v) refl) (clean_under u).wanted)
   clean {env = env} (rule.raw {s = s} {e = e} {c = c} {word = word} h v) want w =
       node_with (context_of env) want (syntax.Raw s e) w (refl, refl, refl, refl, refl, refl, refl, refl, refl, refl, refl, refl, rw (typed h None, word_bits env.earlier (core.type_of c) word v) refl, refl)

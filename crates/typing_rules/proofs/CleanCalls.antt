@@ -1,8 +1,7 @@
 -- A call that stands breaks no rule: the regions that are guessed are those that the arguments before require.
 use Rattle.std.proofs.Common.{◌≡◌, ℕ, suc, ◌==◌, List, [], ◌∷◌, ◌++◌, length, Option, Some, None, Bool, true, false, cond, not, ◌&&◌, refl, sym, ◌∙◌, ap, IsTrue, eq-eqb, eqb-true}
-use Rattle.std.specs.List.{list_any, find}
 use Rattle.iv_words.specs.Words.{same_word}
-use Rattle.ivory_tree.specs.Syntax.{Word, ExprSyntax, CallSyntax}
+use Rattle.ivory_tree.specs.Syntax.{ExprSyntax, CallSyntax}
 use Rattle.area_types.specs.Syntax as types
 use Rattle.area_types.specs.Syntax.{ValueType}
 use Rattle.area_types.specs.declared.region.Region.{Region}
@@ -28,16 +27,14 @@ use Rattle.typing_rules.specs.Environments.{Env}
 use Rattle.typing_rules.specs.Contexts.{context_of}
 use Rattle.typing_rules.specs.Calls.{Fit, no_args, value_arg, reference_arg}
 use Rattle.typing_rules.specs.Clean.{CallIsClean}
+use Rattle.typing_rules.proofs.Lookups.{some_same, found_any}
 use Rattle.typing_rules.proofs.TypesAgree.{has_settled, typed}
 use Rattle.typing_rules.proofs.Quiet.{AsWanted, none_at, quiet_cons, quiet_append, region_same, area_same}
 use Rattle.typing_rules.proofs.Clean.{clean, clean_under}
 
 -- ---- regions
 
-some_same : {A : Type 0} {x y : A} → Some x ≡ Some y → x ≡ y
-some_same h = cc
-
-region_at_fits : (regions : ℕ → Region) (j : ℕ) (wanted given r : Region) → given ≡ under regions wanted → region_at j wanted given ≡ Some r → regions j ≡ r
+pub region_at_fits : (regions : ℕ → Region) (j : ℕ) (wanted given r : Region) → given ≡ under regions wanted → region_at j wanted given ≡ Some r → regions j ≡ r
 region_at_fits regions j Global given r f h = let no : ⊥ = cc in absurd no
 region_at_fits regions j Own given r f h = let no : ⊥ = cc in absurd no
 region_at_fits regions j (Param k) given r f h = go (k == j) refl h
@@ -125,15 +122,6 @@ same_length (reference_arg r h g f fit) = ap suc (same_length fit)
 
 -- ---- calls
 
-callee_there : (name : Word) (callees : List Callee) (c : Callee) → find (λ (x : Callee). same_word x.name name) callees ≡ Some c → list_any (λ (x : Callee). same_word x.name name) callees ≡ true
-callee_there name [] c h = let no : ⊥ = cc in absurd no
-callee_there name (x ∷ callees) c h = go (callee_there name callees c) (same_word x.name name) refl h
-  where
-    go : (find (λ (y : Callee). same_word y.name name) callees ≡ Some c → list_any (λ (y : Callee). same_word y.name name) callees ≡ true)
-        → (b : Bool) → same_word x.name name ≡ b → cond b (Some x) (find (λ (y : Callee). same_word y.name name) callees) ≡ Some c → list_any (λ (y : Callee). same_word y.name name) (x ∷ callees) ≡ true
-    go ih true e g = rw e refl
-    go ih false e g = rw (e, ih g) refl
-
 quiet_call : (context : Context) (call : CallSyntax) → rule_7 (ACall context call) ≡ false → rule_34 (ACall context call) ≡ false → least_broken (ACall context call) ≡ None
 quiet_call context call h g = none_at rules (ACall context call)
     (refl, (refl, (refl, (refl, (refl, (refl, (h, (refl, (refl, (refl, (refl, (refl, (refl, (refl, (refl, (refl, (refl, (refl, (refl, (refl, (refl, (refl, (refl, (refl, (refl, (refl, (refl, (refl, (refl, (refl, (refl, (refl, (refl, (g, (refl, (refl, (refl, (refl, (refl, (refl, (refl, (refl, (refl, (refl, tt))))))))))))))))))))))))))))))))))))))))))))
@@ -141,5 +129,5 @@ quiet_call context call h g = none_at rules (ACall context call)
 pub call_is_clean : CallIsClean
 call_is_clean env call c result k =
     quiet_cons (ACall (context_of env) call) (args_row (context_of env) [] (params_of (callee_named env.earlier call.name.text)) call.args)
-    (quiet_call (context_of env) call (rw (callee_there call.name.text env.earlier.callees k.callee k.earlier) refl) (rw (k.earlier, eq-eqb (length k.callee.params) (length call.args) (same_length k.fit)) refl))
+    (quiet_call (context_of env) call (rw (found_any (λ (x : Callee). same_word x.name call.name.text) env.earlier.callees k.callee k.earlier) refl) (rw (k.earlier, eq-eqb (length k.callee.params) (length call.args) (same_length k.fit)) refl))
     (ap (λ o. first_of (args_row (context_of env) [] (params_of o) call.args)) k.earlier ∙ clean_args [] k.fit tt)

@@ -10,7 +10,7 @@ use Rattle.source_types.specs.Items.{after, item_names}
 use Rattle.core_tree.specs.Syntax as core
 use Rattle.std.proofs.lemmas.List.Sorted.{IsPermutation-refl}
 use Rattle.typing_rules.specs.Sites.{unchecked}
-use Rattle.typing_rules.specs.Items.{with_params}
+use Rattle.typing_rules.specs.Items.{behind_header}
 use Rattle.typing_rules.specs.WellTyped.{at_header}
 use Rattle.typing_rules.specs.Environments.{Env}
 use Rattle.typing_rules.specs.Expressions as rule
@@ -49,20 +49,20 @@ own_stays env area e c own (stands.reference w h g f) =
 -- ---- the module
 
 -- in the body, where both parameters are in scope
-in_body : Env
-in_body = with_params (record (at_header (item_names added.items) nothing_earlier added_header) { result = Some (Int U8) }) added_header.params (Int U8 ∷ Int U8 ∷ [])
+in_added : Env
+in_added = item.in_body (behind_header (at_header (item_names added.items) nothing_earlier added_header) added_proc (Int U8 ∷ Int U8 ∷ []) (Some (Int U8)))
 
-sum_has : Has in_body sum sum_core
-unfolding in_body
+sum_has : Has in_added sum sum_core
+unfolding in_added
 sum_has = rule.by_left {c = core.Local (unchecked (Int U8)) 0} {d = core.Local (unchecked (Int U8)) 1} {label = sum_label} refl (rule.local refl) (rule.has (rule.local refl) refl) refl (record { ty = refl; checks = record { kinds = refl; places = refl } })
 
 pub added_stands : AddedStands
-unfolding in_body
+unfolding in_added
 added_stands = record {
   end = after nothing_earlier (syntax.Procedure added_proc);
   items = module_rule.procedure (record {
     types = Int U8 ∷ Int U8 ∷ [];
-    last = in_body;
+    last = in_added;
     header = record {
       unused = refl;
       params_stand = item.more_params refl refl (record { exists = refl; small = refl }) (item.more_params refl refl (record { exists = refl; small = refl }) item.no_params);

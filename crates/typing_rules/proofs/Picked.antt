@@ -1,5 +1,5 @@
 -- The module stands for its core.
-use Rattle.std.proofs.Common.{ℕ, List, [], ◌∷◌, Some, false, refl}
+use Rattle.std.proofs.Common.{ℕ, List, [], ◌∷◌, Some, None, false, refl}
 use Rattle.std.proofs.lemmas.List.Sorted.{IsPermutation-refl}
 use Rattle.ivory_tree.specs.Syntax as syntax
 use Rattle.area_types.specs.Syntax.{Truth}
@@ -13,7 +13,7 @@ use Rattle.typing_rules.specs.Calls as calls
 use Rattle.typing_rules.specs.Initializers as fills
 use Rattle.typing_rules.specs.Statements as stands
 use Rattle.typing_rules.specs.Items as item
-use Rattle.typing_rules.specs.Items.{StandsArea, StandsProc, with_params}
+use Rattle.typing_rules.specs.Items.{StandsArea, StandsProc, behind_header, in_body}
 use Rattle.typing_rules.specs.WellTyped as module_rule
 use Rattle.typing_rules.specs.WellTyped.{outside, at_header}
 use Rattle.typing_rules.specs.Picked.{out, pick, pick_header, go, go_header, picked, out_core, pick_core, go_core, byte_at, PickedStands}
@@ -32,7 +32,7 @@ out_stands : StandsArea (outside names nothing_earlier) out out_core
 out_stands = record { unused = refl; name = refl; constant = refl; area = record { exists = refl; small = refl }; first = item.zero }
 
 abbrev in_pick : Env
-in_pick = with_params (record (at_header names after_out pick_header) { result = Some (byte_at (Param 0)) }) pick_header.params (byte_at (Param 0) ∷ byte_at (Param 0) ∷ [])
+in_pick = in_body (behind_header (at_header names after_out pick_header) pick (byte_at (Param 0) ∷ byte_at (Param 0) ∷ []) (Some (byte_at (Param 0))))
 
 pick_stands : StandsProc (at_header names after_out pick_header) pick pick_core
 pick_stands = record {
@@ -54,7 +54,7 @@ pick_stands = record {
 }
 
 abbrev in_go : Env
-in_go = with_params (at_header names after_pick go_header) go_header.params (Truth ∷ [])
+in_go = in_body (behind_header (at_header names after_pick go_header) go (Truth ∷ []) None)
 
 -- after the `alloc`, and after the `let` within the `if`
 abbrev with_p : Env

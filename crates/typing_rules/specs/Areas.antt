@@ -1,7 +1,7 @@
 -- Areas and types that a program may name: they exist, and each area has at most 65,535 bytes on t32 and 32 levels.
 use Rattle.std.specs.Prelude.{◌≡◌, Bool, true, Some, IsTrue, List}
 use Rattle.ivory_tree.specs.Syntax.{Word, AreaSyntax, TypeSyntax}
-use Rattle.area_types.specs.Syntax.{ValueType, Area, Ref}
+use Rattle.area_types.specs.Syntax.{ValueType, Area, Truth, Int, Ix, Bits, Ref}
 use Rattle.area_types.specs.Trees.{Written, tree_of, trees_of}
 use Rattle.area_types.specs.Tables.{is_small}
 use Rattle.source_types.specs.Environments.{Earlier, words}
@@ -21,7 +21,10 @@ pub record NamesArea (earlier : Earlier) (text : AreaSyntax) (area : Area) : Typ
 -- the area behind a reference is small
 abbrev pub has_small_area : Earlier → ValueType → Bool
 has_small_area earlier (Ref constant region area) = is_small_area earlier area
-has_small_area earlier _ = true
+has_small_area earlier Truth = true
+has_small_area earlier (Int kind) = true
+has_small_area earlier (Ix n) = true
+has_small_area earlier (Bits k) = true
 
 pub record NamesType (earlier : Earlier) (regions : List Word) (text : TypeSyntax) (t : ValueType) : Type 0 where
   pub exists : type_in earlier regions text ≡ Some t

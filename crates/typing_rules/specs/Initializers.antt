@@ -2,7 +2,7 @@
 use Rattle.std.specs.Prelude.{◌≡◌, ℕ, suc, ◌*◌, ◌-◌, ℤ, pos, int_le, Bool, true, false, ◌&&◌, List, [], ◌∷◌, ◌++◌, replicate, Some, slice_get}
 use Rattle.iv_words.specs.declared.Span.{Span}
 use Rattle.ivory_tree.specs.Syntax as syntax
-use Rattle.ivory_tree.specs.Syntax.{ExprSyntax, Literal, Truth, MakeBits, InitSyntax, InitsSyntax}
+use Rattle.ivory_tree.specs.Syntax.{ExprSyntax, Literal, Truth, Outcome, Variable, Cast, ToIndex, WrapIndex, MakeBits, Raw, SetField, Prefix, Binary, Field, Element, Cond, Bare, InitSyntax, InitsSyntax}
 use Rattle.type_trees.specs.Trees as trees
 use Rattle.type_trees.specs.Trees.{count, count_row}
 use Rattle.area_types.specs.Syntax.{ValueType, Area, Stored, Array, Struct, StructType}
@@ -34,12 +34,43 @@ mutual
 
 -- ---- areas of the module
 
+-- a number without a minus
+abbrev pub is_number : ExprSyntax → Bool
+is_number (Literal s value) = int_le (pos 0) value
+is_number (Truth s value) = false
+is_number (Outcome s) = false
+is_number (Variable s name) = false
+is_number (Cast s kind e) = false
+is_number (ToIndex s n e) = false
+is_number (WrapIndex s n e) = false
+is_number (MakeBits s name e) = false
+is_number (Raw s e) = false
+is_number (SetField s e field value) = false
+is_number (Prefix s op e) = false
+is_number (Binary s op at left right) = false
+is_number (Field s e field) = false
+is_number (Element s brackets e index) = false
+is_number (Cond s test first second) = false
+is_number (Bare s e) = false
+
 -- a cell is a NUM, `-` NUM, `true`, `false` or `bits` of a NUM
 abbrev pub is_constant : ExprSyntax → Bool
 is_constant (Literal s value) = true
 is_constant (Truth s value) = true
-is_constant (MakeBits s name (Literal t value)) = int_le (pos 0) value
-is_constant _ = false
+is_constant (MakeBits s name e) = is_number e
+is_constant (Outcome s) = false
+is_constant (Variable s name) = false
+is_constant (Cast s kind e) = false
+is_constant (ToIndex s n e) = false
+is_constant (WrapIndex s n e) = false
+is_constant (Raw s e) = false
+is_constant (SetField s e field value) = false
+is_constant (Prefix s op e) = false
+is_constant (Binary s op at left right) = false
+is_constant (Field s e field) = false
+is_constant (Element s brackets e index) = false
+is_constant (Cond s test first second) = false
+is_constant (Bare s e) = false
 
 abbrev mutual
   pub has_constants : InitSyntax → Bool
@@ -53,7 +84,20 @@ abbrev mutual
 abbrev pub constant_of : ExprCore → ℤ
 constant_of (core.Number label value) = value
 constant_of (core.MakeBits label e) = constant_of e
-constant_of _ = pos 0
+constant_of (core.Outcome l) = pos 0
+constant_of (core.Local l number) = pos 0
+constant_of (core.AreaName l number) = pos 0
+constant_of (core.Cast l e) = pos 0
+constant_of (core.ToIndex l e) = pos 0
+constant_of (core.WrapIndex l e) = pos 0
+constant_of (core.Raw l e) = pos 0
+constant_of (core.SetField l e field value) = pos 0
+constant_of (core.Prefix l op e) = pos 0
+constant_of (core.Binary l op left right) = pos 0
+constant_of (core.Field l e field) = pos 0
+constant_of (core.Element l e index) = pos 0
+constant_of (core.Cond l test first second) = pos 0
+constant_of (core.Whole l e) = pos 0
 
 abbrev pub zeros : ℕ → List ℤ
 zeros n = replicate n (pos 0)

@@ -12,6 +12,7 @@ use Rattle.area_types.specs.Syntax as types
 use Rattle.area_types.specs.Syntax.{ValueType, Area, Field, Ref}
 use Rattle.area_types.specs.Trees.{Written, WrittenRow, fields_of, trees_of}
 use Rattle.area_types.specs.Tables.{is_small}
+use Rattle.alloc_effects.specs.declared.allowed.Allowed.{Allowed}
 use Rattle.bit_data.specs.Layouts.{laid_out}
 use Rattle.bit_data.specs.declared.FieldWish.{FieldWish}
 use Rattle.bit_data.specs.declared.BitLayout.{BitLayout}
@@ -90,7 +91,9 @@ none_or_plain (Some t) = is_plain t
 abbrev pub plain_of : ValueType → Option Plain
 plain_of types.Truth = Some plain.Truth
 plain_of (types.Int kind) = Some (plain.Int kind)
-plain_of _ = None
+plain_of (types.Ix n) = None
+plain_of (types.Bits k) = None
+plain_of (Ref constant region area) = None
 
 -- ---- imports: what they give is bool or integers
 
@@ -107,7 +110,11 @@ abbrev mutual
 -- through a mutable reference it writes the cells behind it
 abbrev pub writes_plain : Earlier → ValueType → Bool
 writes_plain earlier (Ref false region area) = has_plain_cells (written earlier area)
-writes_plain earlier _ = true
+writes_plain earlier (Ref true region area) = true
+writes_plain earlier types.Truth = true
+writes_plain earlier (types.Int kind) = true
+writes_plain earlier (types.Ix n) = true
+writes_plain earlier (types.Bits k) = true
 
 abbrev pub plain_result : Option ValueType → Option Plain
 plain_result None = None
@@ -124,12 +131,14 @@ pub record StandsImport (env : Env) (h : HeaderSyntax) (core : ImportCore) : Typ
 -- ---- procedures
 
 abbrev pub with_params : Env → List ParamSyntax → List ValueType → Env
+with_params env [] ts = env
+with_params env (p ∷ params) [] = env
 with_params env (p ∷ params) (t ∷ ts) = with_params (with_local env p.name.text t) params ts
-with_params env _ _ = env
 
 abbrev pub param_cores : List ParamSyntax → List ValueType → List ParamCore
+param_cores [] ts = []
+param_cores (p ∷ params) [] = []
 param_cores (p ∷ params) (t ∷ ts) = record { name = p.name.text; ty = t } ∷ param_cores params ts
-param_cores _ _ = []
 
 abbrev pub contract_site : (before : Bool) → SiteKind
 contract_site true = site.Pre
@@ -139,6 +148,17 @@ contract_site false = site.Post
 abbrev pub contract_bytes : (before : Bool) → ℕ
 contract_bytes true = 8
 contract_bytes false = 7
+
+-- behind the header: the parameters are in scope
+abbrev pub behind_header : Env → ProcSyntax → List ValueType → Option ValueType → Env
+behind_header env p types result = with_params (record env { result = result }) p.header.params types
+
+-- a body may allocate and return, and not break
+abbrev pub of_body : Allowed
+of_body = record { may_alloc = true; may_break = false; may_return = true }
+
+abbrev pub in_body : Env → Env
+in_body env = record env { allowed = of_body }
 
 -- `result` may be named in an `ensures`
 abbrev pub at_contract : Env → ContractSyntax → Env
@@ -153,14 +173,14 @@ pub data Contracts (env : Env) : List ContractSyntax → List ContractCore → T
   no_contracts : Contracts env [] []
   more_contracts : {c : ContractSyntax} {contracts : List ContractSyntax} {d : ContractCore} {cores : List ContractCore} → StandsContract env c d → Contracts env contracts cores → Contracts env (c ∷ contracts) (d ∷ cores)
 
--- the body may allocate and return; with a result it does not fall through
+-- with a result its body does not fall through
 pub record StandsProc (env : Env) (p : ProcSyntax) (core : ProcCore) : Type 0 where
   pub types : List ValueType
   pub last : Env
   pub header : StandsHeader env p.header types core.result
   pub plain : p.exported ≡ true → IsTrue (list_all is_plain types && none_or_plain core.result)
-  pub contracts : Contracts (with_params (record env { result = core.result }) p.header.params types) p.contracts core.contracts
-  pub body : StandsBlock (with_params (record env { result = core.result }) p.header.params types) p.body last core.body
+  pub contracts : Contracts (behind_header env p types core.result) p.contracts core.contracts
+  pub body : StandsBlock (in_body (behind_header env p types core.result)) p.body last core.body
   pub ends : is_some core.result ≡ true → block_falls p.body ≡ false
   pub name : core.name ≡ p.header.name.text
   pub exported : core.exported ≡ p.exported

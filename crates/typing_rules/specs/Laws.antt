@@ -5,7 +5,7 @@ use Rattle.iv_words.specs.declared.Span.{Span}
 use Rattle.ivory_tree.specs.Syntax.{ModuleSyntax}
 use Rattle.ivory_tree.specs.Formed.{Formed}
 use Rattle.core_tree.specs.Syntax.{ModuleCore}
-use Rattle.rule_faults.specs.FirstFault.{FirstFault}
+use Rattle.rule_faults.specs.FirstFault.{FirstFault, Faultless}
 use Rattle.typing_rules.specs.WellTyped.{Stands, WellTyped}
 
 pub record Faulty (m : ModuleSyntax) : Type 0 where
@@ -13,8 +13,18 @@ pub record Faulty (m : ModuleSyntax) : Type 0 where
   pub span : Span
   pub fault : FirstFault m rule span
 
+-- what stands for a core breaks no rule
+abbrev pub StandingIsFaultless : Type 0
+StandingIsFaultless = (m : ModuleSyntax) (core : ModuleCore) → Formed m → Stands m core → Faultless m
+
+-- what breaks no rule stands for a core
+abbrev pub FaultlessIsTyped : Type 0
+FaultlessIsTyped = (m : ModuleSyntax) → Formed m → Faultless m → WellTyped m
+
+-- a module is well typed or has a first fault, and not both
 abbrev pub ExactlyOne : Type 0
 ExactlyOne = (m : ModuleSyntax) → Formed m → (WellTyped m ⊎ Faulty m) × (WellTyped m → Faulty m → ⊥)
 
+-- and it stands for one core at most
 abbrev pub OneCore : Type 0
 OneCore = (m : ModuleSyntax) (c d : ModuleCore) → Stands m c → Stands m d → c ≡ d

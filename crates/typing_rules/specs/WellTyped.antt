@@ -1,5 +1,5 @@
 -- Which modules are well typed: those for which some core stands.
-use Rattle.std.specs.Prelude.{◌≡◌, true, false, List, [], ◌∷◌, None}
+use Rattle.std.specs.Prelude.{◌≡◌, false, List, [], ◌∷◌, None}
 use Rattle.ivory_tree.specs.Syntax.{Word, ItemSyntax, BitsData, Struct, Global, Import, Procedure, GlobalSyntax, HeaderSyntax, ProcSyntax, StructSyntax, ModuleSyntax}
 use Rattle.ivory_tree.specs.declared.items.BitsItem.{BitsItem}
 use Rattle.area_types.specs.Tables.{structs_of}
@@ -14,13 +14,13 @@ use Rattle.source_types.specs.Items.{after, item_names}
 use Rattle.typing_rules.specs.Environments.{Env}
 use Rattle.typing_rules.specs.Items.{StandsBits, StandsStruct, StandsArea, StandsImport, StandsProc}
 
--- a body may allocate and return, and not break
-abbrev pub of_body : Allowed
-of_body = record { may_alloc = true; may_break = false; may_return = true }
+-- there is no code outside of bodies
+abbrev pub of_no_code : Allowed
+of_no_code = record { may_alloc = false; may_break = false; may_return = false }
 
 -- outside of procedures, after earlier items
 abbrev pub outside : List Word → Earlier → Env
-outside names earlier = record { earlier = earlier; names = names; regions = []; result = None; in_ensures = false; allowed = of_body; scope = []; locals = [] }
+outside names earlier = record { earlier = earlier; names = names; regions = []; result = None; in_ensures = false; allowed = of_no_code; scope = []; locals = [] }
 
 -- at a header, with its region parameters
 abbrev pub at_header : List Word → Earlier → HeaderSyntax → Env

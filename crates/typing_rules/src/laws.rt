@@ -4,6 +4,7 @@ ghost use Rattle.typing_rules.specs.Examples as example;
 ghost use Rattle.typing_rules.specs.Picked.{PickedStands};
 ghost use Rattle.typing_rules.specs.TypesAgree.{SettledAgree, WantedAgree};
 ghost use Rattle.typing_rules.specs.Clean.{SettledIsClean, WantedIsClean, CallIsClean};
+ghost use Rattle.typing_rules.specs.Laws.{StandingIsFaultless, FaultlessIsTyped, ExactlyOne, OneCore};
 
 /// The module stands for its core, and the prefixes of a chain are told from chains of their own.
 #[tactic(auto, using(crate::proofs::Examples::examples))]
@@ -51,4 +52,24 @@ pub fn typed_expressions_are_clean()
 /// A call that stands breaks no rule.
 pub fn typed_calls_are_clean()
     ensures { CallIsClean }
+{}
+
+/// A module that stands for a core breaks no rule.
+pub fn typed_modules_are_clean()
+    ensures { StandingIsFaultless }
+{}
+
+/// A module that breaks no rule stands for a core.
+pub fn clean_modules_are_typed()
+    ensures { FaultlessIsTyped }
+{}
+
+/// A module is well typed or has a first fault, and not both.
+pub fn typed_or_faulty()
+    ensures { ExactlyOne }
+{}
+
+/// A module stands for one core at most.
+pub fn modules_have_one_core()
+    ensures { OneCore }
 {}

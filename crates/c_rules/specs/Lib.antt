@@ -1,0 +1,5 @@
+pub mod Joined
+pub mod Walks
+pub mod Views
+pub mod Shapes
+pub mod Scope

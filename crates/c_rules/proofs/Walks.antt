@@ -122,7 +122,7 @@ last_as_first d (e ∷ ds) = ap (before e) (last_as_first d ds) ∙ before_swap 
 
 -- ---- walks
 
-behind_both : (at : ℕ) (t u : List ℕ) → behind at (t ++ u) ≡ behind (behind at t) u
+pub behind_both : (at : ℕ) (t u : List ℕ) → behind at (t ++ u) ≡ behind (behind at t) u
 behind_both at t u = simp length-append (omega arith)
 
 -- one form and another behind it
@@ -194,3 +194,7 @@ pub asked_again : {a b c : Walk} {ds : List Demand} {k : Bool} (r : Rule) → Wa
 asked_again {a} {b} {c} {ds} {k} r walks asked =
     let same : behind a.at [] ≡ a.at = omega arith in
     as_demands (ap (λ n. ds ++ ask n r k) same) (asked_next r walks asked)
+
+-- a form whose rules are not told
+pub unasked : {a b : Walk} {t : List ℕ} {ds : List Demand} → Walks a b t ds → (let c : Walk = record { at = b.at; fault = a.fault } in Walks a c t [])
+unasked {a} {b} {t} {ds} walks = record { place = walks.place; fault = λ h. (stands a).fault (omega arith) }

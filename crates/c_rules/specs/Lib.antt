@@ -3,3 +3,6 @@ pub mod Walks
 pub mod Views
 pub mod Shapes
 pub mod Scope
+pub mod Separated
+pub mod Given
+pub mod Slots

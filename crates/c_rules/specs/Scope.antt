@@ -4,6 +4,7 @@ use Rattle.std.specs.Option.{option_map}
 use denote.Bor.{Bor}
 use Rattle.c_ast.specs.declared.types.CScalar.{CScalar}
 use Rattle.c_ast.specs.declared.types.CKind.TheVariants as kind
+use Rattle.c_ast.specs.declared.types.CType.{CType}
 use Rattle.c_ast.specs.declared.unit.CExtern.{CExtern}
 use Rattle.c_ast.specs.declared.unit.CFunction.{CFunction}
 use Rattle.c_ast.specs.Names.{stop_name}
@@ -17,6 +18,8 @@ use Rattle.c_rules.specs.declared.names.Entry.{Entry}
 use Rattle.c_rules.specs.declared.names.Signature as called
 use Rattle.c_rules.specs.declared.names.Signature.TheVariants as signature
 use Rattle.c_rules.specs.declared.names.Names.{Names}
+use Rattle.c_rules.specs.declared.names.Params.{Params}
+use Rattle.c_rules.specs.declared.names.Params.TheVariants as params
 use Rattle.c_rules.specs.Views.{base_view}
 
 -- ---- what names are declared as
@@ -43,6 +46,21 @@ abbrev pub signature_view : called.Signature → Signature
 signature_view signature.Stop = stop_signature
 signature_view (signature.Extern x) = extern_signature x.now
 signature_view (signature.Function f) = declared_signature f.now
+
+-- parameters that no argument is given for yet
+abbrev pub params_view : Params → List CType
+params_view params.None = []
+params_view params.Stop = stop_signature.params
+params_view (params.Types ts) = ts.now
+params_view (params.Named ps) = map (λ x. x.ty) ps.now
+
+abbrev pub first_type : List CType → Option CType
+first_type [] = None
+first_type (t ∷ ts) = Some t
+
+abbrev pub rest_types : List CType → List CType
+rest_types [] = []
+rest_types (t ∷ ts) = ts
 
 abbrev pub signature_found : Option called.Signature → Option Signature
 signature_found = option_map signature_view

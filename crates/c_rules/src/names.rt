@@ -1,14 +1,14 @@
 //! The names that are in scope at a place of a unit.
 
-ghost use Rattle.std.specs.Prelude.{◌≡◌, [], is_some, length, map, slice_get, if◌then◌else◌};
+ghost use Rattle.std.specs.Prelude.{◌≡◌, [], is_some, length, map, if◌then◌else◌};
 ghost use Rattle.std.specs.List.{list_any};
 ghost use Rattle.std.specs.Option.{option_map};
 ghost use Rattle.iv_words.specs.Words.{same_word};
 ghost use Rattle.c_ast.specs.Names.{named};
-ghost use Rattle.c_ast.specs.Signatures.{extern_signature, stop_signature};
+ghost use Rattle.c_ast.specs.Signatures.{extern_signature};
 ghost use Rattle.c_ast.specs.StaticTypes as static_types;
 ghost use Rattle.c_text.specs.Scopes as scopes;
-ghost use Rattle.c_rules.specs.Scope.{entity_view, entity_found, signature_view, signature_found, declared_signature, stop_alone, with_values, with_externs, with_functions, names_view};
+ghost use Rattle.c_rules.specs.Scope.{entity_view, entity_found, params_view, first_type, rest_types, signature_view, signature_found, declared_signature, stop_alone, with_values, with_externs, with_functions, names_view};
 ghost use Rattle.c_rules.specs.Shapes.{place_view};
 ghost use Rattle.c_rules.specs.Views.{type_view};
 
@@ -174,43 +174,84 @@ impl<'u> Signature<'u> {
         }
     }
 
-    /// The type of a parameter, counted from 0.
-    pub fn param(&self, at: usize) -> Option<Wanted<'u>>
-        ensures { option_map type_view result ≡ slice_get (signature_view self.now).params at }
+    /// The types of the parameters, from the first on.
+    pub fn types(&self) -> Params<'u>
+        ensures { params_view result ≡ (signature_view self.now).params }
     {
         match self {
-            Signature::Stop => stop_param(at),
-            Signature::Extern(declared) => type_at(declared.params.as_slice(), at),
-            Signature::Function(declared) => param_at(declared.params.as_slice(), at),
+            Signature::Stop => Params::Stop,
+            Signature::Extern(declared) => Params::Types(declared.params.as_slice()),
+            Signature::Function(declared) => Params::Named(declared.params.as_slice()),
         }
     }
 }
 
-fn stop_param<'u>(at: usize) -> Option<Wanted<'u>>
-    ensures { option_map type_view result ≡ slice_get stop_signature.params at }
-{
-    if at == 0 {
-        Some(Wanted::Scalar(CScalar::Int(IntKind::U32)))
-    } else {
-        None
+/// The types of parameters that no argument is given for yet.
+#[derive(Clone, Copy, Drop)]
+pub enum Params<'u> {
+    None,
+    Stop,
+    Types(&'u [CType]),
+    Named(&'u [CParam]),
+}
+
+impl<'u> Params<'u> {
+    pub fn first(&self) -> Option<Wanted<'u>>
+        ensures { option_map type_view result ≡ first_type (params_view self.now) }
+    {
+        match self {
+            Params::None => None,
+            Params::Stop => Some(Wanted::Scalar(CScalar::Int(IntKind::U32))),
+            Params::Types(types) => first_of_types(types),
+            Params::Named(params) => first_of_params(params),
+        }
+    }
+
+    /// Those behind the first.
+    pub fn rest(&self) -> Params<'u>
+        ensures { params_view result ≡ rest_types (params_view self.now) }
+    {
+        match self {
+            Params::None | Params::Stop => Params::None,
+            Params::Types(types) => rest_of_types(types),
+            Params::Named(params) => rest_of_params(params),
+        }
     }
 }
 
-fn type_at<'u>(types: &'u [CType], at: usize) -> Option<Wanted<'u>>
-    ensures { option_map type_view result ≡ slice_get types.now at }
+fn first_of_types<'u>(types: &'u [CType]) -> Option<Wanted<'u>>
+    ensures { option_map type_view result ≡ first_type types.now }
 {
-    match types.get(at) {
+    match types.split_first() {
         None => None,
-        Some(ty) => Some(wanted_of(ty)),
+        Some((first, _)) => Some(wanted_of(first)),
     }
 }
 
-fn param_at<'u>(params: &'u [CParam], at: usize) -> Option<Wanted<'u>>
-    ensures { option_map type_view result ≡ slice_get (map (λ x. x.ty) params.now) at }
+fn first_of_params<'u>(params: &'u [CParam]) -> Option<Wanted<'u>>
+    ensures { option_map type_view result ≡ first_type (map (λ x. x.ty) params.now) }
 {
-    match params.get(at) {
+    match params.split_first() {
         None => None,
-        Some(param) => Some(wanted_of(&param.ty)),
+        Some((first, _)) => Some(wanted_of(&first.ty)),
+    }
+}
+
+fn rest_of_types<'u>(types: &'u [CType]) -> Params<'u>
+    ensures { params_view result ≡ rest_types types.now }
+{
+    match types.split_first() {
+        None => Params::None,
+        Some((_, rest)) => Params::Types(rest),
+    }
+}
+
+fn rest_of_params<'u>(params: &'u [CParam]) -> Params<'u>
+    ensures { params_view result ≡ rest_types (map (λ x. x.ty) params.now) }
+{
+    match params.split_first() {
+        None => Params::None,
+        Some((_, rest)) => Params::Named(rest),
     }
 }
 

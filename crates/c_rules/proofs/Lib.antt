@@ -4,3 +4,6 @@ pub mod Gates
 pub mod Rows
 pub mod Args
 pub mod SlotRows
+pub mod BraceRows
+pub mod Scopes
+pub mod FormLines

@@ -6,3 +6,6 @@ pub mod Scope
 pub mod Separated
 pub mod Given
 pub mod Slots
+pub mod Depths
+pub mod Kept
+pub mod Forms

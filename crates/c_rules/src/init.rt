@@ -2,10 +2,10 @@
 
 ghost use Rattle.std.specs.Prelude.{◌++◌, ◌≡◌, [], false};
 ghost use Rattle.c_ast.specs.View.{expr_of, init_of, inits_of};
-ghost use Rattle.c_text.specs.Rules.{InitializersFit, ask};
+ghost use Rattle.c_text.specs.Rules.{BracesMatch, InitializersFit, ask};
 ghost use Rattle.c_text.specs.TypeText.{listed};
 ghost use Rattle.c_text.specs.ExpressionText.{expr_text, init_text, init_texts};
-ghost use Rattle.c_text.specs.ExpressionRules.{init_demands, loose_demands};
+ghost use Rattle.c_text.specs.ExpressionRules.{expr_demands, init_demands, loose_demands};
 ghost use Rattle.c_ast.specs.Syntax.{One};
 ghost use Rattle.c_rules.specs.Scope.{names_view};
 ghost use Rattle.c_rules.specs.Shapes.{shape_view};
@@ -171,12 +171,16 @@ fn check_unbraced<'u>(names: &Names<'u>, shape: &Shape<'u>, e: &'u CExpr, walk: 
 {
     match shape {
         Shape::Scalar(scalar) => check_given(names, &Wanted::Scalar(*scalar), e, walk),
-        Shape::Array(_, _, _) | Shape::Struct(_, _, _) => {
-            let at = walk.at;
-            check_expr(names, e, walk);
-            walk.ask(at, CWhy::BadType, false);
-        }
+        Shape::Array(_, _, _) | Shape::Struct(_, _, _) => check_braceless(names, e, walk),
     }
+}
+
+fn check_braceless<'u>(names: &Names<'u>, e: &'u CExpr, walk: &mut Walk)
+    ensures { Walks walk.old walk.new (expr_text (expr_of e.now)) (ask walk.old.at BracesMatch false ++ expr_demands names.now.target (names_view names.now) walk.old.at (expr_of e.now)) }
+{
+    let at = walk.at;
+    check_expr(names, e, walk);
+    walk.ask(at, CWhy::BadType, false);
 }
 
 /// `{0}`, or the first brace of a list.

@@ -1,11 +1,14 @@
 //! The names and types of a unit of the C subset: the first place of its text that breaks one of their rules.
 #![tactic(auto)]
 
+mod braces;
 mod call;
+mod decl;
 mod expr;
 mod init;
 mod names;
 mod shapes;
 mod spelled;
+mod stmt;
 mod types;
 mod walk;

@@ -7,3 +7,4 @@ pub mod SlotRows
 pub mod BraceRows
 pub mod Scopes
 pub mod FormLines
+pub mod StmtRows

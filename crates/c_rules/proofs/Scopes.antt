@@ -1,5 +1,6 @@
 -- Names that are added to those in scope, and taken out again.
-use Rattle.std.proofs.Common.{◌≡◌, refl, sym, ◌∙◌, ap, ℕ, ◌≤◌, List, [], ◌∷◌, ◌++◌, length, take, length-append, arith}
+use Rattle.std.proofs.Common.{◌≡◌, refl, sym, ◌∙◌, ap, ℕ, zero, suc, ◌≤◌, List, [], ◌∷◌, ◌++◌, length, take, length-append, arith}
+use Rattle.std.proofs.lemmas.List.{length-take}
 use Rattle.std.specs.Prelude.{Result, Ok, Err, OnOk}
 use Rattle.std.proofs.lemmas.List.{take-append-le, take_all}
 use Rattle.c_ast.specs.declared.types.CType.{CType}
@@ -22,7 +23,10 @@ front_within : (xs ys : List Entry) → take (length xs) ys ≡ xs → length xs
 front_within xs ys e = omega (arith, ap length e, length-take (length xs) ys)
 
 take-take : (m n : ℕ) (xs : List Entry) → m ≤ n → take m (take n xs) ≡ take m xs
-take-take m n xs below = ?
+take-take zero n xs below = refl
+take-take (suc m) zero xs below = absurd (omega arith)
+take-take (suc m) (suc n) [] below = refl
+take-take (suc m) (suc n) (x ∷ xs) below = ap (λ ys. x ∷ ys) (take-take m n xs (omega arith))
 
 pub pushed_view : (old : Names) (vs : List Entry) (e : Entry) → vs ≡ old.values ++ e ∷ [] → names_view (with_entries old vs) ≡ with_value (names_view old) e.name.now (entity_view e.entity)
 pushed_view old vs e is =

@@ -1,6 +1,6 @@
 //! Names that are declared.
 
-ghost use Rattle.std.specs.Prelude.{◌≡◌, [], ◌++◌, OnOk};
+ghost use Rattle.std.specs.Prelude.{◌≡◌, [], ◌++◌, take, OnOk};
 ghost use Rattle.c_text.specs.Rules.{behind};
 ghost use Rattle.c_text.specs.TypeText.{const_text, object_text};
 ghost use Rattle.c_text.specs.Scopes.{new_name, with_value, with_const};
@@ -67,4 +67,11 @@ pub fn declare_const<'u>(
         Wanted::Scalar(scalar) => declare(names, name, Entity::Number(scalar)),
         Wanted::Pointer(constant, base) => declare(names, name, Entity::Pointer(constant, base)),
     }
+}
+
+/// Takes out of scope all but the first names.
+pub fn leave(names: &mut Names, count: usize)
+    ensures { names.new ≡ record names.old { values = take count names.old.values } }
+{
+    names.values.truncate(count);
 }

@@ -22,7 +22,7 @@ ghost use Rattle.c_rules.specs.Walks.{Walks};
 
 use crate::braces::{Braces, pass_indent};
 use crate::call::{check_call, check_given, check_tested};
-use crate::decl::{check_const, check_object, declare, declare_const};
+use crate::decl::{check_const, check_object, declare, declare_const, leave};
 use crate::expr::{check_expr, check_place};
 use crate::init::check_init;
 use crate::names::{Entity, Names};
@@ -162,4 +162,139 @@ fn check_test<'u>(names: &Names<'u>, test: &'u CExpr, walk: &mut Walk)
     walk.pass(b"if (");
     check_tested(names, test, walk);
     walk.pass(b") {\n");
+}
+
+// ---- blocks
+
+/// Statements, each on its lines within so many braces, in a function of a result.
+#[cycle(stmts)]
+pub fn check_stmts<'u>(
+    names: &mut Names<'u>,
+    wanted: &Wanted<'u>,
+    in_loop: bool,
+    braces: &Braces,
+    stmts: &'u [CStmt],
+    walk: &mut Walk,
+) -> Result<(), Memory>
+    ensures walks { OnOk result (Walks walk.old walk.new (stmts_text (depth braces.now) (stmts_of stmts.now)) (stmts_demands names.old.target (type_view wanted.now) in_loop (depth braces.now) (names_view names.old) walk.old.at (stmts_of stmts.now))) }
+    ensures kept { OnOk result (Kept names.old names.new) }
+{
+    for stmt in stmts {
+        check_stmt(names, wanted, in_loop, braces, stmt, walk)?;
+    }
+    Ok(())
+}
+
+/// The statements of a block behind its first brace, up to the last.
+#[cycle(stmts)]
+fn check_body<'u>(
+    names: &mut Names<'u>,
+    wanted: &Wanted<'u>,
+    in_loop: bool,
+    braces: &Braces,
+    stmts: &'u [CStmt],
+    walk: &mut Walk,
+) -> Result<(), Memory>
+    ensures walks { OnOk result (Walks walk.old walk.new (body_text (depth braces.now) (stmts_of stmts.now)) (stmts_demands names.old.target (type_view wanted.now) in_loop (depth braces.now + 1) (names_view names.old) walk.old.at (stmts_of stmts.now))) }
+    ensures same { OnOk result (names.new ≡ names.old) }
+{
+    let outside = names.values.len();
+    check_stmts(names, wanted, in_loop, &Braces::In(&*braces), stmts, walk)?;
+    leave(names, outside);
+    pass_indent(braces, walk);
+    walk.pass(b"}");
+    Ok(())
+}
+
+/// A statement with the spaces before it.
+#[cycle(stmts)]
+fn check_stmt<'u>(
+    names: &mut Names<'u>,
+    wanted: &Wanted<'u>,
+    in_loop: bool,
+    braces: &Braces,
+    stmt: &'u CStmt,
+    walk: &mut Walk,
+) -> Result<(), Memory>
+    ensures walks { OnOk result (Walks walk.old walk.new (stmt_text (depth braces.now) (stmt_of stmt.now)) (stmt_demands names.old.target (type_view wanted.now) in_loop (depth braces.now) (names_view names.old) (behind walk.old.at (indent (depth braces.now))) (stmt_of stmt.now))) }
+    ensures view { OnOk result (names_view names.new ≡ after (stmt_of stmt.now) (names_view names.old)) }
+    ensures kept { OnOk result (Kept names.old names.new) }
+{
+    pass_indent(braces, walk);
+    check_form(names, wanted, in_loop, braces, stmt, walk)
+}
+
+#[cycle(stmts)]
+fn check_form<'u>(
+    names: &mut Names<'u>,
+    wanted: &Wanted<'u>,
+    in_loop: bool,
+    braces: &Braces,
+    stmt: &'u CStmt,
+    walk: &mut Walk,
+) -> Result<(), Memory>
+    ensures walks { OnOk result (Walks walk.old walk.new (form_text (depth braces.now) (stmt_of stmt.now)) (stmt_demands names.old.target (type_view wanted.now) in_loop (depth braces.now) (names_view names.old) walk.old.at (stmt_of stmt.now))) }
+    ensures view { OnOk result (names_view names.new ≡ after (stmt_of stmt.now) (names_view names.old)) }
+    ensures kept { OnOk result (Kept names.old names.new) }
+{
+    match stmt {
+        CStmt::Const(name, ty, value) => {
+            check_const_value(&*names, name, ty, value, walk);
+            declare_const(names, name, ty)
+        }
+        CStmt::ConstCall(name, ty, call) => {
+            check_const_call(&*names, name, ty, call, walk);
+            declare_const(names, name, ty)
+        }
+        CStmt::Object(name, base, init) => {
+            check_local(&*names, name, base, init, walk);
+            declare(names, name, Entity::Object(false, base_of(base)))
+        }
+        CStmt::Assign(place, value) => {
+            check_assign(&*names, place, value, walk);
+            Ok(())
+        }
+        CStmt::If(test, first, second) => {
+            check_test(&*names, test, walk);
+            check_body(names, wanted, in_loop, braces, first.as_slice(), walk)?;
+            match second {
+                None => {
+                    walk.pass(b"\n");
+                    Ok(())
+                }
+                Some(second) => {
+                    walk.pass(b" else {\n");
+                    check_body(names, wanted, in_loop, braces, second.as_slice(), walk)?;
+                    walk.pass(b"\n");
+                    Ok(())
+                }
+            }
+        }
+        CStmt::Forever(body) => {
+            walk.pass(b"for (;;) {\n");
+            check_body(names, wanted, true, braces, body.as_slice(), walk)?;
+            walk.pass(b"\n");
+            Ok(())
+        }
+        CStmt::Break => {
+            walk.ask(walk.at, CWhy::BadType, in_loop);
+            walk.pass(b"break;\n");
+            Ok(())
+        }
+        CStmt::Return(value) => {
+            check_return(&*names, wanted, value, walk);
+            Ok(())
+        }
+        CStmt::Block(body) => {
+            walk.pass(b"{\n");
+            check_body(names, wanted, in_loop, braces, body.as_slice(), walk)?;
+            walk.pass(b"\n");
+            Ok(())
+        }
+        CStmt::Call(call) => {
+            check_call(&*names, &None, call, walk);
+            walk.pass(b";\n");
+            Ok(())
+        }
+    }
 }

@@ -8,3 +8,5 @@ pub mod BraceRows
 pub mod Scopes
 pub mod FormLines
 pub mod StmtRows
+pub mod ParamRows
+pub mod SizeRows

@@ -11,7 +11,7 @@ use Rattle.c_rules.specs.Walks.{Walks}
 use Rattle.c_rules.specs.Separated.{comma}
 use Rattle.c_rules.proofs.Walks.{followed, passed, stands, as_demands, as_text, behind_both}
 
-next_is : {X : Type 0} (xs : List X) (i : ℕ) (x : X) → i < length xs → x ≡ get_or xs i x → drop i xs ≡ x ∷ drop (i + 1) xs
+pub next_is : {X : Type 0} (xs : List X) (i : ℕ) (x : X) → i < length xs → x ≡ get_or xs i x → drop i xs ≡ x ∷ drop (i + 1) xs
 next_is xs i x below is = drop-cons xs i x below ∙ ap (λ y. y ∷ drop (suc i) xs) (sym is) ∙ ap (λ n. x ∷ drop n xs) (sym (add-one i))
 
 module _ {S X : Type 0} (text : X → List ℕ) (item : S → ℕ → X → List Demand) (next : S → X → S) where

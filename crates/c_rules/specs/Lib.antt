@@ -9,3 +9,5 @@ pub mod Slots
 pub mod Depths
 pub mod Kept
 pub mod Forms
+pub mod Sizes
+pub mod Members

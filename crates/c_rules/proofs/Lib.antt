@@ -10,3 +10,5 @@ pub mod FormLines
 pub mod StmtRows
 pub mod ParamRows
 pub mod SizeRows
+pub mod MemberRows
+pub mod Places

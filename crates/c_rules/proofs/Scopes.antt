@@ -1,7 +1,7 @@
 -- Names that are added to those in scope, and taken out again.
 use Rattle.std.proofs.Common.{◌≡◌, refl, sym, ◌∙◌, ap, ℕ, zero, suc, ◌≤◌, List, [], ◌∷◌, ◌++◌, length, take, length-append, arith}
 use Rattle.std.proofs.lemmas.List.{length-take}
-use Rattle.std.specs.Prelude.{Result, Ok, Err, OnOk}
+use Rattle.std.specs.Prelude.{Result, Ok, Err, OnOk, None}
 use Rattle.std.proofs.lemmas.List.{take-append-le, take_all}
 use Rattle.c_ast.specs.declared.types.CType.{CType}
 use Rattle.c_text.specs.Scopes as scopes
@@ -54,3 +54,11 @@ kept_both a b c first second =
 -- the names of a block are gone behind it
 pub left : (a b : Names) → Kept a b → with_entries b (take (length a.values) b.values) ≡ a
 left a b kept = ap (λ n. with_entries n (take (length a.values) b.values)) kept.others ∙ ap (with_entries a) kept.front
+
+-- outside of a function again
+pub back : (before inner after final : Names) (n : ℕ) → before.itself ≡ None → (let same : Names = record before { itself = inner.itself } in inner ≡ same) → Kept inner after → n ≡ length before.values
+    → final ≡ with_entries after (take n after.values) → (let outside : Names = record final { itself = None } in outside ≡ before)
+back before inner after final n none enters kept counted is =
+    let same_count : n ≡ length inner.values = counted ∙ sym (ap (λ m. length m.values) enters) in
+    let whole : final ≡ inner = is ∙ ap (λ k. with_entries after (take k after.values)) same_count ∙ left inner after kept in
+    ap (λ m. let o : Names = record m { itself = None } in o) (whole ∙ enters) ∙ ap (λ x. let o : Names = record before { itself = x } in o) (sym none)

@@ -4,6 +4,7 @@
 mod braces;
 mod call;
 mod decl;
+mod declarations;
 mod expr;
 mod init;
 mod names;

@@ -1,6 +1,6 @@
 //! Structs and their members.
 
-ghost use Rattle.std.specs.Prelude.{◌≡◌, ◌++◌, [], codes};
+ghost use Rattle.std.specs.Prelude.{◌≡◌, ◌++◌, [], codes, map, max, nat_le};
 ghost use Rattle.std.specs.List.{list_any};
 ghost use Rattle.iv_words.specs.Words.{same_word};
 ghost use Rattle.c_ast.specs.Structs.{row_of, table};
@@ -91,4 +91,55 @@ fn check_member(
     pass_length(member.length, walk);
     walk.pass(b";");
     walk.pass(b"\n");
+}
+
+/// The members of a struct, and the size of a struct of them.
+fn check_members(names: &Names, sized: &[Sized], members: &[CMember], walk: &mut Walk) -> Size
+    requires { sized_view sized.now ≡ sizes_of names.now.target names.now.structs.now }
+    ensures walks { Walks walk.old walk.new (texts (map member_text members.now)) (members_demands names.now.target names.now.structs.now [] walk.old.at members.now) }
+    ensures size { result ≡ row_size names.now.target (row_of (table [] names.now.structs.now) members.now) }
+{
+    let mut end = 0;
+    let mut align = 1;
+    for i in 0..members.len() {
+        let member = &members[i];
+        let size = member_size(names.target, sized, member);
+        end = end_of(end, &size);
+        align = larger(align, size.align);
+        check_member(names, &members[..i], member, is_in_time(end), walk);
+    }
+    Size {
+        bytes: rounded(end, align),
+        align,
+    }
+}
+
+fn larger(first: u64, second: u64) -> u64
+    ensures { result ≡ max first second }
+{
+    first.max(second)
+}
+
+/// Whether a member ends early enough in its struct.
+fn is_in_time(end: u64) -> bool
+    ensures { result ≡ nat_le end 4294967295 }
+{
+    end <= 4_294_967_295
+}
+
+/// A struct behind those that are in scope, and its size.
+pub fn check_struct(names: &Names, sized: &[Sized], declared: &CStruct, walk: &mut Walk) -> Size
+    requires { sized_view sized.now ≡ sizes_of names.now.target names.now.structs.now }
+    ensures walks { Walks walk.old walk.new (struct_text declared.now) (struct_demands names.now.target names.now.structs.now walk.old.at declared.now) }
+    ensures size { result ≡ row_size names.now.target (row_of (table [] names.now.structs.now) declared.now.members) }
+{
+    walk.pass(b"struct ");
+    let had = names.is_tag(&declared.name);
+    walk.ask(walk.at, CWhy::BadName, !had);
+    walk.pass(declared.name.as_slice());
+    walk.pass(b" {");
+    walk.pass(b"\n");
+    let size = check_members(names, sized, declared.members.as_slice(), walk);
+    walk.pass(b"};\n");
+    size
 }

@@ -12,3 +12,4 @@ pub mod ParamRows
 pub mod SizeRows
 pub mod MemberRows
 pub mod Places
+pub mod Units

@@ -23,7 +23,8 @@ use Rattle.type_trees.specs.Multiples.{up}
 use Rattle.type_trees.specs.Trees.{Leaf, Many, Struct, End, Field}
 use Rattle.type_trees.proofs.Multiples.{up_from, up_none}
 use Rattle.c_rules.specs.declared.sizes.Size.{Size}
-use Rattle.c_rules.specs.Sizes.{bound, capped, ended, sized_times, tree_size, row_size, entry_size, sizes_of, or_nothing, base_size}
+use Rattle.c_rules.specs.declared.sizes.Sized.{Sized}
+use Rattle.c_rules.specs.Sizes.{bound, capped, ended, sized_times, tree_size, row_size, entry_size, sized_view, sizes_of, or_nothing, base_size}
 
 -- ---- counting up to a bound
 
@@ -103,3 +104,10 @@ pub ended_is : (target : Target) (e : ℕ) (a : CTree) → ended (capped e) (tre
 ended_is target e a =
     let some : max (align (metric_of target) a) 1 ≡ align (metric_of target) a = omega (arith, some_align target a) in
     ap (λ x. capped (up (capped e) x + capped (size (metric_of target) a))) some ∙ cap_end e (align (metric_of target) a) (size (metric_of target) a)
+
+-- one more struct
+pub sized_more : (target : Target) (ss : List CStruct) (s : CStruct) (old new : List Sized) (e : Sized) → sized_view old ≡ sizes_of target ss → new ≡ old ++ e ∷ [] → e.tag.now ≡ s.name → e.size ≡ row_size target (row_of (table [] ss) s.members)
+    → sized_view new ≡ sizes_of target (ss ++ s ∷ [])
+sized_more target ss s old new e so_far pushed tag size =
+    ap sized_view pushed ∙ map-append (λ x. (x.tag.now, x.size)) old (e ∷ []) ∙ ap (λ l. l ++ (e.tag.now, e.size) ∷ []) so_far
+    ∙ ap (λ t. sizes_of target ss ++ (t, e.size) ∷ []) tag ∙ ap (λ z. sizes_of target ss ++ (s.name, z) ∷ []) size ∙ sym (sizes_push target ss s)

@@ -11,3 +11,4 @@ pub mod Kept
 pub mod Forms
 pub mod Sizes
 pub mod Members
+pub mod UnitRows

@@ -14,5 +14,10 @@ mod sizes;
 mod spelled;
 mod stmt;
 mod structs;
+#[cfg(test)]
+mod tests;
 mod types;
+mod unit;
 mod walk;
+
+pub use unit::first_broken;

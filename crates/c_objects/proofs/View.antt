@@ -1,0 +1,26 @@
+-- What each form of a type is as a tree: one equation for each variant.
+use Rattle.std.proofs.Common.{◌≡◌, ℕ, List, ap, sym, ◌∙◌}
+use Rattle.std.specs.Prelude.{map}
+use Rattle.type_trees.specs.Trees.{Leaf, Many, Struct}
+use Rattle.c_ast.specs.Syntax.{Name}
+use Rattle.c_ast.specs.Structs.{CTree}
+use Rattle.c_ast.specs.declared.types.CScalar.{CScalar}
+use Rattle.c_objects.specs.declared.shape.Shape.{Shape}
+use Rattle.c_objects.specs.declared.shape.Shape.TheVariants as shape
+use Rattle.c_objects.specs.declared.shape.Field.{Field}
+use Rattle.c_objects.specs.declared.shape.Field.TheVariants as field
+use Rattle.c_objects.specs.declared.shape.Field.TheOpen.{Shape-F, Field-F}
+use Rattle.c_objects.specs.declared.shape.Field.TheFolds.{fold-roll-Shape, fold-roll-Field}
+use Rattle.c_objects.specs.Shapes.{tree_of, field_of, row_from, shape_step, field_step}
+
+pub leaf_is : (s : CScalar) → tree_of (shape.Leaf s) ≡ Leaf s
+leaf_is s = ap tree_of (sym (shape.rolls-Leaf s)) ∙ fold-roll-Shape (Name × CTree) CTree field_step shape_step (Shape-F.Leaf s)
+
+pub many_is : (n : ℕ) (a : Shape) → tree_of (shape.Many n a) ≡ Many n (tree_of a)
+many_is n a = ap tree_of (sym (shape.rolls-Many n a)) ∙ fold-roll-Shape (Name × CTree) CTree field_step shape_step (Shape-F.Many n a)
+
+pub struct_is : (k : Name) (fields : List Field) → tree_of (shape.Struct k fields) ≡ Struct k (row_from (map field_of fields))
+struct_is k fields = ap tree_of (sym (shape.rolls-Struct k fields)) ∙ fold-roll-Shape (Name × CTree) CTree field_step shape_step (Shape-F.Struct k fields)
+
+pub named_is : (f : Name) (a : Shape) → field_of (field.Named f a) ≡ (f, tree_of a)
+named_is f a = ap field_of (sym (field.rolls-Named f a)) ∙ fold-roll-Field (Name × CTree) CTree field_step shape_step (Field-F.Named f a)

@@ -1,7 +1,8 @@
 -- What each form of a type is as a tree: one equation for each variant.
-use Rattle.std.proofs.Common.{◌≡◌, ℕ, List, ap, sym, ◌∙◌}
-use Rattle.std.specs.Prelude.{map}
-use Rattle.type_trees.specs.Trees.{Leaf, Many, Struct}
+use Rattle.std.proofs.Common.{◌≡◌, ℕ, ◌+◌, ◌<◌, List, length, get_or, drop, ap, sym, ◌∙◌, arith}
+use Rattle.std.specs.Prelude.{map, ◌∷◌}
+use Rattle.std.proofs.lemmas.Grind.{common_steps}
+use Rattle.type_trees.specs.Trees.{Leaf, Many, Struct, Field as Member}
 use Rattle.c_ast.specs.Syntax.{Name}
 use Rattle.c_ast.specs.Structs.{CTree}
 use Rattle.c_ast.specs.declared.types.CScalar.{CScalar}
@@ -24,3 +25,10 @@ struct_is k fields = ap tree_of (sym (shape.rolls-Struct k fields)) ∙ fold-rol
 
 pub named_is : (f : Name) (a : Shape) → field_of (field.Named f a) ≡ (f, tree_of a)
 named_is f a = ap field_of (sym (field.rolls-Named f a)) ∙ fold-roll-Field (Name × CTree) CTree field_step shape_step (Field-F.Named f a)
+
+-- the members from number i on
+pub fields_drop : (fields : List Field) (i : ℕ) (item : Field) → item ≡ get_or fields i item → i < length fields
+    → row_from (map field_of (drop i fields)) ≡ Member (field_of item).0 (field_of item).1 (row_from (map field_of (drop (i + 1) fields)))
+fields_drop fields i item is lt =
+    let e : drop i fields ≡ item ∷ drop (i + 1) fields = grind (arith, common_steps) in
+    ap (λ l. row_from (map field_of l)) e

@@ -7,6 +7,12 @@ use Rattle.c_objects.specs.declared.shape.Shape.{Shape}
 use Rattle.c_objects.specs.declared.shape.Field.TheOpen.{Shape-F, Field-F}
 use Rattle.c_objects.specs.declared.shape.Field.TheFolds.{fold-Shape, fold-Field}
 use Rattle.c_objects.specs.declared.shape.Field.{Field as Member}
+use Rattle.c_objects.specs.declared.shape.Base.{Base}
+use Rattle.c_objects.specs.declared.shape.Base.TheVariants.{Scalar, Struct as Named}
+use Rattle.c_objects.specs.declared.shape.ObjectType.{ObjectType}
+use Rattle.c_objects.specs.declared.shape.ObjectType.TheVariants as object
+use Rattle.c_ast.specs.declared.CBase.{CBase}
+use Rattle.c_ast.specs.declared.CBase.TheVariants as base
 
 abbrev pub row_from : List (Name × CTree) → CRow
 row_from [] = End
@@ -25,3 +31,14 @@ tree_of = fold-Shape (Name × CTree) CTree field_step shape_step
 
 abbrev pub field_of : Member → Name × CTree
 field_of = fold-Field (Name × CTree) CTree field_step shape_step
+
+-- ---- references to types
+
+abbrev pub base_of : Base → CBase
+base_of (Scalar s) = base.Scalar s
+base_of (Named w) = base.Struct w.now
+
+abbrev pub type_tree : ObjectType → CTree
+type_tree (object.Scalar s) = Leaf s
+type_tree (object.Missing w) = Struct w.now End
+type_tree (object.Shaped a) = tree_of a.now

@@ -57,7 +57,7 @@ pub fn align_of_shape(t: Target, shape: &Shape) -> u64
 }
 
 #[cycle(aligns)]
-pub fn fields_align(t: Target, fields: &[Field]) -> u64
+fn fields_align(t: Target, fields: &[Field]) -> u64
     ensures value { result ≡ align_row (metric_of t) (row_from (map field_of fields.now)) }
     ensures some { 1 ≤ result }
 {
@@ -69,7 +69,7 @@ pub fn fields_align(t: Target, fields: &[Field]) -> u64
 }
 
 #[cycle(aligns)]
-fn field_align(t: Target, field: &Field) -> u64
+pub fn field_align(t: Target, field: &Field) -> u64
     ensures value { result ≡ align (metric_of t) (field_of field.now).1 }
     ensures some { 1 ≤ result }
 {
@@ -121,10 +121,20 @@ fn fields_size(t: Target, fields: &[Field]) -> Option<u64>
 fn field_end(t: Target, field: &Field, from: u64) -> Option<u64>
     ensures { IfSome result (λ n. n ≡ up from (align (metric_of t) (field_of field.now).1) + size (metric_of t) (field_of field.now).1) }
 {
+    match (up(from, field_align(t, field)), field_size(t, field)) {
+        (Some(at), Some(wide)) => at.checked_add(wide),
+        _ => None,
+    }
+}
+
+#[cycle(sizes)]
+pub fn field_size(t: Target, field: &Field) -> Option<u64>
+    ensures { IfSome result (λ n. n ≡ size (metric_of t) (field_of field.now).1) }
+{
     match field {
-        Field::Named(_, shape) => match (up(from, align_of_shape(t, shape)), size_of_shape(t, shape)) {
-            (Some(at), Some(wide)) => at.checked_add(wide),
-            _ => None,
+        Field::Named(_, shape) => match size_of_shape(t, shape) {
+            Some(wide) => Some(wide),
+            None => None,
         },
     }
 }

@@ -1,8 +1,13 @@
 //! The memory of C in code: objects of a target's types, made of bytes.
 #![tactic(auto)]
 
+mod bytes;
+mod faults;
+mod laid;
 mod layout;
 mod shape;
 
+pub use faults::{Fault, Refusal};
+pub use laid::is_laid_in_shape;
 pub use layout::{align_of_shape, size_of_shape};
-pub use shape::{Field, Shape};
+pub use shape::{Base, Field, ObjectType, Shape};

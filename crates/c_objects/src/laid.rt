@@ -101,3 +101,14 @@ fn is_laid_in_field(t: Target, field: &Field, at: u64, s: CScalar) -> Option<boo
         },
     }
 }
+
+/// Whether a scalar begins at an offset of an object's type.
+pub fn is_laid(t: Target, ty: ObjectType, at: u64, s: CScalar) -> Option<bool>
+    ensures { IfSome result (λ b. b ≡ laid_out same_scalar (at, s) (lay (metric_of t) (type_tree ty) 0)) }
+{
+    match ty {
+        ObjectType::Scalar(u) => Some(at == 0 && same(s, u)),
+        ObjectType::Missing(_) => Some(false),
+        ObjectType::Shaped(shape) => is_laid_in_shape(t, shape, at, s),
+    }
+}

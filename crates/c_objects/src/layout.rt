@@ -6,9 +6,9 @@ ghost use Rattle.type_trees.specs.Layouts.{align, align_row, size, end_row};
 ghost use Rattle.c_ast.specs.Places.{row_size};
 ghost use Rattle.c_ast.specs.Targets.{table_of};
 ghost use Rattle.c_ast.specs.Scalars.{scalar_bytes, scalar_alignment, metric_of};
-ghost use Rattle.c_objects.specs.Shapes.{tree_of, field_of, row_from};
+ghost use Rattle.c_objects.specs.Shapes.{tree_of, field_of, row_from, type_tree};
 
-use crate::shape::{Field, Shape};
+use crate::shape::{Field, ObjectType, Shape};
 use c_ast::{CScalar, Target};
 use iv_words::IntKind;
 
@@ -136,5 +136,17 @@ pub fn field_size(t: Target, field: &Field) -> Option<u64>
             Some(wide) => Some(wide),
             None => None,
         },
+    }
+}
+
+/// The bytes of an object's type.
+#[tactic(auto, unfolding(type_trees::specs::Multiples::up))]
+pub fn size_of(t: Target, ty: ObjectType) -> Option<u64>
+    ensures { IfSome result (λ n. n ≡ size (metric_of t) (type_tree ty)) }
+{
+    match ty {
+        ObjectType::Scalar(s) => Some(width(s)),
+        ObjectType::Missing(_) => Some(0),
+        ObjectType::Shaped(shape) => size_of_shape(t, shape),
     }
 }

@@ -1,7 +1,6 @@
 -- Digits put one by one into bytes.
 use Rattle.std.proofs.Common.{◌≡◌, ℕ, zero, suc, ◌+◌, ◌-◌, ◌*◌, ◌^◌, ◌/◌, ◌%◌, ◌<◌, ◌≤◌, List, [], ◌∷◌, length, refl, sym, ◌∙◌, ap, arith}
 use Rattle.std.specs.Prelude.{map, slice_set}
-use Rattle.std.proofs.lemmas.List.{map-set}
 use Rattle.c_memory.specs.Bytes.{Byte}
 use Rattle.c_memory.specs.Codecs.{digits}
 use Rattle.c_memory.specs.Seen.{over}

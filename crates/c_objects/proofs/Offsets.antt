@@ -1,12 +1,10 @@
 -- Where the scalars of arrays and structs stand: an offset is in one element, or in one member.
-use Rattle.std.proofs.Common.{◌≡◌, ℕ, zero, suc, ◌+◌, ◌-◌, ◌*◌, ◌<◌, ◌≤◌, ◌/◌, ◌%◌, List, [], ◌∷◌, ◌++◌, Bool, true, false, ◌&&◌, ◌||◌, ◌==◌, refl, sym, ◌∙◌, ap, subst, arith}
-use Rattle.std.proofs.lemmas.Grind.{common_steps}
+use Rattle.std.proofs.Common.{◌≡◌, ℕ, zero, suc, ◌+◌, ◌-◌, ◌*◌, ◌<◌, ◌≤◌, ◌/◌, ◌%◌, List, [], ◌∷◌, ◌++◌, Bool, true, false, ◌&&◌, ◌||◌, ◌==◌, refl, sym, ◌∙◌, ap, arith}
 use Rattle.std.proofs.lemmas.Bool.{eq-eqb, eqb-true}
 use Rattle.type_trees.specs.Multiples.{up}
 use Rattle.type_trees.specs.Trees.{Tree, Leaf, Many, Struct, Row, End, Field}
 use Rattle.type_trees.specs.Layouts.{Metric, align, size, rows, lay, lay_row, Ascends, end_row}
-use Rattle.type_trees.proofs.Multiples.{up_from}
-use Rattle.type_trees.proofs.Layouts.{ascends_from, ascends_to, ascends_append, rows_ascend, lay_ascends, lay_row_ascends, reaches}
+use Rattle.type_trees.proofs.Layouts.{rows_ascend, lay_ascends, lay_row_ascends, reaches}
 use Rattle.c_memory.specs.Access.{laid_out}
 
 or_assoc : (a b c : Bool) → ((a || b) || c) ≡ (a || (b || c))

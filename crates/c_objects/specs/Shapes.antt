@@ -1,8 +1,9 @@
 -- What the types of objects are, as trees.
-use Rattle.std.specs.Prelude.{List, [], ◌∷◌, map}
+use Rattle.std.specs.Prelude.{List, [], ◌∷◌}
 use Rattle.type_trees.specs.Trees.{Leaf, Many, Struct, End, Field}
 use Rattle.c_ast.specs.Syntax.{Name}
-use Rattle.c_ast.specs.Structs.{CTree, CRow}
+use Rattle.c_ast.specs.Structs.{CTree, CRow, times, base_tree}
+use Rattle.c_ast.specs.declared.CMember.{CMember}
 use Rattle.c_objects.specs.declared.shape.Shape.{Shape}
 use Rattle.c_objects.specs.declared.shape.Field.TheOpen.{Shape-F, Field-F}
 use Rattle.c_objects.specs.declared.shape.Field.TheFolds.{fold-Shape, fold-Field}
@@ -42,3 +43,7 @@ abbrev pub type_tree : ObjectType → CTree
 type_tree (object.Scalar s) = Leaf s
 type_tree (object.Missing w) = Struct w.now End
 type_tree (object.Shaped a) = tree_of a.now
+
+-- a member with its name, where these types are declared
+abbrev pub entry : List (Name × CTree) → CMember → Name × CTree
+entry types m = (m.name, times m.length (base_tree types m.base))

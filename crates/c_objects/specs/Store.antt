@@ -1,5 +1,5 @@
 -- The objects of the code as those of the memory of C.
-use Rattle.std.specs.Prelude.{ℤ, map}
+use Rattle.std.specs.Prelude.{ℕ, zero, suc, ℤ, [], ◌∷◌, map}
 use Rattle.c_memory.specs.Bytes.{Byte}
 use Rattle.c_memory.specs.Codecs.{numbers}
 use Rattle.c_memory.specs.Objects as memory
@@ -23,3 +23,9 @@ object_of o = record { type = type_tree o.ty; constant = o.constant; live = o.li
 
 abbrev pub objects_of : Objects → CObjects
 objects_of os = map object_of os.items.items
+
+-- one object changed
+abbrev pub at_place : ℕ → (memory.Object CScalar Name (Byte Address) → memory.Object CScalar Name (Byte Address)) → CObjects → CObjects
+at_place o f [] = []
+at_place zero f (ob ∷ mem) = f ob ∷ mem
+at_place (suc o) f (ob ∷ mem) = ob ∷ at_place o f mem

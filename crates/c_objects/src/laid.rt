@@ -1,8 +1,9 @@
 //! Which scalars a type has, and where.
 
-ghost use Rattle.std.specs.Prelude.{◌≡◌, ◌++◌, IfSome, OnOk, map};
+ghost use Rattle.std.specs.Prelude.{◌≡◌, ◌+◌, ◌++◌, IfSome, IfOk, OnOk, map};
 ghost use Rattle.type_trees.specs.Trees.{Field as Member};
-ghost use Rattle.type_trees.specs.Layouts.{size, lay, lay_row, rows};
+ghost use Rattle.type_trees.specs.Multiples.{up};
+ghost use Rattle.type_trees.specs.Layouts.{align, size, lay, lay_row, rows};
 ghost use Rattle.c_memory.specs.Access.{laid_out};
 ghost use Rattle.c_ast.specs.Scalars.{metric_of};
 ghost use Rattle.c_ast.specs.StaticTypes.{same_scalar};
@@ -14,7 +15,7 @@ use crate::shape::{Field, ObjectType, Shape};
 use c_ast::{CScalar, Target};
 use iv_words::{Memory, Seq};
 
-fn same(a: CScalar, b: CScalar) -> bool
+pub fn same(a: CScalar, b: CScalar) -> bool
     ensures { result ≡ same_scalar a b }
 {
     match (a, b) {
@@ -104,11 +105,122 @@ fn is_laid_in_field(t: Target, field: &Field, at: u64, s: CScalar) -> Option<boo
 
 /// Whether a scalar begins at an offset of an object's type.
 pub fn is_laid(t: Target, ty: ObjectType, at: u64, s: CScalar) -> Option<bool>
-    ensures { IfSome result (λ b. b ≡ laid_out same_scalar (at, s) (lay (metric_of t) (type_tree ty) 0)) }
+    ensures { IfSome result (λ b. b ≡ laid_out same_scalar (at, s) (lay (metric_of t) (type_tree ty.entry) 0)) }
 {
     match ty {
         ObjectType::Scalar(u) => Some(at == 0 && same(s, u)),
         ObjectType::Missing(_) => Some(false),
         ObjectType::Shaped(shape) => is_laid_in_shape(t, shape, at, s),
+    }
+}
+
+// ---- the scalars themselves
+
+/// Adds the scalars of a type that begins at an offset, each with its offset.
+#[cycle(lays)]
+pub fn lay_shape(
+    t: Target,
+    shape: &Shape,
+    at: u64,
+    out: &mut Seq<(u64, CScalar)>,
+) -> Result<(), Memory>
+    ensures { OnOk result (out.new ≡ out.old ++ lay (metric_of t) (tree_of shape.now) at) }
+{
+    match shape {
+        Shape::Leaf(s) => out.push((at, *s)),
+        Shape::Many(n, element) => lay_elements(t, *n, element.get(), at, out),
+        Shape::Struct(_, fields) => lay_fields(t, fields.as_slice(), at, out),
+    }
+}
+
+#[cycle(lays)]
+fn lay_elements(
+    t: Target,
+    n: u32,
+    element: &Shape,
+    at: u64,
+    out: &mut Seq<(u64, CScalar)>,
+) -> Result<(), Memory>
+    ensures { OnOk result (out.new ≡ out.old ++ rows n (lay (metric_of t) (tree_of element.now)) (size (metric_of t) (tree_of element.now)) at) }
+{
+    let Some(wide) = size_of_shape(t, element) else {
+        return Err(Memory);
+    };
+    let mut next = at;
+    for _ in 0..n {
+        lay_shape(t, element, next, out)?;
+        match next.checked_add(wide) {
+            Some(after) => next = after,
+            None => return Err(Memory),
+        }
+    }
+    Ok(())
+}
+
+#[cycle(lays)]
+fn lay_fields(
+    t: Target,
+    fields: &[Field],
+    at: u64,
+    out: &mut Seq<(u64, CScalar)>,
+) -> Result<(), Memory>
+    ensures { OnOk result (out.new ≡ out.old ++ lay_row (metric_of t) (row_from (map field_of fields.now)) at 0) }
+{
+    let mut end = 0;
+    for field in fields {
+        match lay_next(t, field, at, end, out) {
+            Ok(next) => end = next,
+            Err(memory) => return Err(memory),
+        }
+    }
+    Ok(())
+}
+
+#[cycle(lays)]
+fn lay_next(
+    t: Target,
+    field: &Field,
+    at: u64,
+    end: u64,
+    out: &mut Seq<(u64, CScalar)>,
+) -> Result<u64, Memory>
+    ensures next { IfOk result (λ n. n ≡ up end (align (metric_of t) (field_of field.now).1) + size (metric_of t) (field_of field.now).1) }
+    ensures laid { OnOk result (out.new ≡ out.old ++ lay (metric_of t) (field_of field.now).1 (at + up end (align (metric_of t) (field_of field.now).1))) }
+{
+    let (Some(begin), Some(wide)) = (up(end, field_align(t, field)), field_size(t, field)) else {
+        return Err(Memory);
+    };
+    let (Some(place), Some(next)) = (at.checked_add(begin), begin.checked_add(wide)) else {
+        return Err(Memory);
+    };
+    lay_field(t, field, place, out)?;
+    Ok(next)
+}
+
+#[cycle(lays)]
+fn lay_field(t: Target, field: &Field, at: u64, out: &mut Seq<(u64, CScalar)>) -> Result<(), Memory>
+    ensures { OnOk result (out.new ≡ out.old ++ lay (metric_of t) (field_of field.now).1 at) }
+{
+    match field {
+        Field::Named(_, shape) => match lay_shape(t, shape, at, out) {
+            Ok(()) => Ok(()),
+            Err(memory) => Err(memory),
+        },
+    }
+}
+
+/// Adds the scalars of an object's type that begins at an offset.
+pub fn lay_type(
+    t: Target,
+    ty: ObjectType,
+    at: u64,
+    out: &mut Seq<(u64, CScalar)>,
+) -> Result<(), Memory>
+    ensures { OnOk result (out.new ≡ out.old ++ lay (metric_of t) (type_tree ty.entry) at) }
+{
+    match ty {
+        ObjectType::Scalar(s) => out.push((at, s)),
+        ObjectType::Missing(_) => Ok(()),
+        ObjectType::Shaped(shape) => lay_shape(t, shape, at, out),
     }
 }

@@ -142,7 +142,7 @@ pub fn field_size(t: Target, field: &Field) -> Option<u64>
 /// The bytes of an object's type.
 #[tactic(auto, unfolding(type_trees::specs::Multiples::up))]
 pub fn size_of(t: Target, ty: ObjectType) -> Option<u64>
-    ensures { IfSome result (λ n. n ≡ size (metric_of t) (type_tree ty)) }
+    ensures { IfSome result (λ n. n ≡ size (metric_of t) (type_tree ty.entry)) }
 {
     match ty {
         ObjectType::Scalar(s) => Some(width(s)),

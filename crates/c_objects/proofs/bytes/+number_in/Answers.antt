@@ -1,4 +1,4 @@
-use Rattle.std.proofs.Common.{arith, ap, length, ◌≤◌}
+use Rattle.std.proofs.Common.{arith, length, ◌≤◌}
 use Rattle.c_objects.proofs.Digits.{seven_bytes}
 use Rattle.c_objects.proofs.bytes.+number_in.Goals as goal
 

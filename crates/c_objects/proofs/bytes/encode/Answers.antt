@@ -1,4 +1,4 @@
-use Rattle.std.proofs.Common.{sym, ap, arith, length, ◌≤◌}
+use Rattle.std.proofs.Common.{sym, arith, length, ◌≤◌}
 use Rattle.std.specs.Prelude.{map}
 use Rattle.std.proofs.lemmas.Grind.{common_steps}
 use Rattle.c_ast.specs.Targets.{table_of}

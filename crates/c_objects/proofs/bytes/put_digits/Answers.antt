@@ -1,8 +1,4 @@
 use Rattle.std.proofs.Common.{arith}
-use Rattle.std.specs.Prelude.{map}
-use Rattle.c_memory.specs.Codecs.{digits}
-use Rattle.c_memory.specs.Seen.{over}
-use Rattle.c_objects.specs.Bytes.{byte_of, as_number}
 use Rattle.c_objects.proofs.Digits.{put_step, put_end}
 use Rattle.c_objects.proofs.bytes.put_digits.Goals as goal
 

@@ -1,7 +1,6 @@
-use Rattle.std.proofs.Common.{rules, sym, ap, ◌∙◌, arith, drop, ◌+◌, ◌-◌}
+use Rattle.std.proofs.Common.{sym, ap, ◌∙◌, arith, drop, ◌+◌}
 use Rattle.std.specs.Prelude.{map}
-use Rattle.std.proofs.lemmas.Grind.{common_steps}
-use Rattle.type_trees.specs.Layouts.{align, size, lay, lay_row}
+use Rattle.type_trees.specs.Layouts.{lay_row}
 use Rattle.c_memory.specs.Access.{laid_out}
 use Rattle.type_trees.specs.Multiples.{up}
 use Rattle.c_ast.specs.Scalars.{metric_of}

@@ -1,0 +1,4 @@
+pub mod View
+pub mod Offsets
+pub mod Digits
+pub mod Rows

@@ -1,11 +1,11 @@
 -- A statement's line is its spaces and then its form.
-use Rattle.std.proofs.Common.{◌≡◌, refl, sym, ap, ℕ, ◌+◌, List, [], ◌∷◌, ◌++◌, append_assoc}
+use Rattle.std.proofs.Common.{◌≡◌, sym, ℕ, ◌+◌, List, [], ◌++◌, append_assoc}
 use Rattle.std.specs.Prelude.{codes}
 use Rattle.c_ast.specs.Syntax.{Stmt, Const, ConstCall, Object, Assign, If, IfElse, Forever, Break, Return, Block, Call}
 use Rattle.c_text.specs.TypeText.{line, const_text, object_text}
 use Rattle.c_text.specs.ExpressionText.{expr_text, place_text, call_text}
 use Rattle.c_text.specs.StatementText.{indent, first_value_text, return_text, stmts_text, stmt_text, block_text}
-use Rattle.c_rules.specs.Forms.{body_text, form_text}
+use Rattle.c_rules.specs.Forms.{form_text}
 
 one : (i a s n : List ℕ) → ((i ++ a) ++ s) ++ n ≡ i ++ (a ++ (s ++ n))
 one i a s n = simp append_assoc

@@ -3,7 +3,7 @@ use Rattle.std.proofs.Common.{◌≡◌, refl, Bool, true, false, [], Option, So
 use Rattle.std.specs.Prelude.{◌&&◌}
 use Rattle.std.specs.Option.{option_and_then}
 use Rattle.c_ast.specs.Names.{named}
-use Rattle.c_ast.specs.StaticTypes.{ValueType, Entity, of_both, of_choice}
+use Rattle.c_ast.specs.StaticTypes.{ValueType, of_both, of_choice}
 use Rattle.c_ast.specs.Syntax.{Name}
 use Rattle.c_ast.specs.Targets.{TargetTable}
 use Rattle.c_text.specs.Scopes.{Names, usable}

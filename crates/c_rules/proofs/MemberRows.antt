@@ -1,5 +1,5 @@
 -- Members in a row, and the size of a struct of them.
-use Rattle.std.proofs.Common.{◌≡◌, refl, sym, ◌∙◌, ap, ℕ, ◌+◌, ◌<◌, ◌≤◌, Bool, List, [], ◌∷◌, ◌++◌, length, take, get_or, min, max, not, arith}
+use Rattle.std.proofs.Common.{◌≡◌, refl, sym, ◌∙◌, ap, ℕ, ◌+◌, ◌<◌, List, [], ◌∷◌, ◌++◌, length, take, get_or, max, not, arith}
 use Rattle.std.specs.Prelude.{codes, nat_le}
 use Rattle.std.specs.List.{list_any}
 use Rattle.std.proofs.lemmas.Bool.Decides.{nat_tests}
@@ -12,13 +12,13 @@ use Rattle.c_ast.specs.declared.unit.CMember.{CMember}
 use Rattle.c_ast.specs.declared.unit.CStruct.{CStruct}
 use Rattle.c_ast.specs.Scalars.{metric_of}
 use Rattle.c_ast.specs.Structs.{CRow, row_of, table, tree, times}
-use Rattle.c_text.specs.Rules.{Demand, LengthIsAllowed, MemberEndsInTime, MemberIsNew, TagIsKnown, ask, behind}
+use Rattle.c_text.specs.Rules.{Demand, LengthIsAllowed, MemberEndsInTime, MemberIsNew, ask, behind}
 use Rattle.c_text.specs.Scopes.{Names}
 use Rattle.c_text.specs.Spelling.{member_text}
 use Rattle.c_text.specs.TypeText.{object_text}
 use Rattle.c_text.specs.ExpressionRules.{base_demands}
 use Rattle.c_text.specs.UnitRules.{file_scope, is_allowed_length, member_demands, members_demands}
-use Rattle.type_trees.specs.Layouts.{align, align_row, size, end_row}
+use Rattle.type_trees.specs.Layouts.{align_row, end_row}
 use Rattle.type_trees.specs.Multiples.{up}
 use Rattle.type_trees.proofs.Layouts.{align_row_some}
 use Rattle.c_rules.specs.declared.sizes.Size.{Size}
@@ -50,7 +50,7 @@ pub asks_are : (target : Target) (names : Names) (earlier : List CMember) (end :
 asks_are target names earlier end at m is =
     ap (λ b. member_asks names earlier b at m) (in_time end (end_row (metric_of target) (row_of (table [] names.structs) (earlier ++ m ∷ [])) 0) is)
     ∙ ap (λ ds. ask at LengthIsAllowed (is_allowed_length m.length) ++ ask at MemberEndsInTime (nat_le (end_row (metric_of target) (row_of (table [] names.structs) (earlier ++ m ∷ [])) 0) 4294967295) ++ ds
-            ++ ask (behind at (object_text m.base [])) MemberIsNew (not (list_any (λ k. same_word k.name m.name) earlier))) (base_asks names at m.base)
+    ++ ask (behind at (object_text m.base [])) MemberIsNew (not (list_any (λ k. same_word k.name m.name) earlier))) (base_asks names at m.base)
 
 -- ---- sizes
 
@@ -71,8 +71,8 @@ pub struct_size : (target : Target) (r : CRow) (end a bytes : ℕ) → end ≡ c
 struct_size target r end a bytes ends aligned is =
     let some : max (align_row (metric_of target) r) 1 ≡ align_row (metric_of target) r = omega (arith, align_row_some (metric_of target) r) in
     let whole : bytes ≡ capped (up (end_row (metric_of target) r 0) (align_row (metric_of target) r)) =
-            is ∙ ap (λ e. capped (up e (max a 1))) ends ∙ ap (λ x. capped (up (capped (end_row (metric_of target) r 0)) (max x 1))) aligned ∙ ap (λ x. capped (up (capped (end_row (metric_of target) r 0)) x)) some
-            ∙ cap_up (end_row (metric_of target) r 0) (align_row (metric_of target) r) in
+    is ∙ ap (λ e. capped (up e (max a 1))) ends ∙ ap (λ x. capped (up (capped (end_row (metric_of target) r 0)) (max x 1))) aligned ∙ ap (λ x. capped (up (capped (end_row (metric_of target) r 0)) x)) some
+    ∙ cap_up (end_row (metric_of target) r 0) (align_row (metric_of target) r) in
     ap (λ b. let s : Size = record { bytes = b; align = a } in s) whole ∙ ap (λ x. let s : Size = record { bytes = capped (up (end_row (metric_of target) r 0) (align_row (metric_of target) r)); align = x } in s) aligned
 
 pub taken : {X : Type 0} (xs : List X) (i : ℕ) (x : X) → i < length xs → x ≡ get_or xs i x → take (i + 1) xs ≡ take i xs ++ x ∷ []

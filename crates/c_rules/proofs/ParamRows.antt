@@ -1,5 +1,5 @@
 -- Parameters in a row, with names and without.
-use Rattle.std.proofs.Common.{◌≡◌, refl, ap, sym, ◌∙◌, ℕ, List, [], ◌∷◌, ◌++◌, length, drop, arith}
+use Rattle.std.proofs.Common.{◌≡◌, refl, ap, ℕ, List, [], ◌∷◌, ◌++◌, length, arith}
 use Rattle.std.specs.Prelude.{codes, map}
 use Rattle.c_ast.specs.declared.types.CType.{CType}
 use Rattle.c_ast.specs.declared.unit.CParam.{CParam}

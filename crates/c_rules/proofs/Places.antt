@@ -1,5 +1,5 @@
 -- Where the parts of declarations stand, told in two ways.
-use Rattle.std.proofs.Common.{◌≡◌, ℕ, ◌+◌, List, [], ◌∷◌, ◌++◌, length, length-append, append_assoc, arith}
+use Rattle.std.proofs.Common.{◌≡◌, ℕ, List, [], ◌++◌, length-append, append_assoc, arith}
 use Rattle.c_text.specs.Rules.{behind}
 
 -- the parameters of an extern

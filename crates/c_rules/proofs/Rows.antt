@@ -1,15 +1,14 @@
 -- Loops over a list: what is asked of all is what is asked of those so far, and then of the rest.
-use Rattle.std.proofs.Common.{◌≡◌, refl, sym, ◌∙◌, ap, subst, ℕ, suc, ◌+◌, ◌<◌, ◌≤◌, Bool, true, false, if◌then◌else◌, List, [], ◌∷◌, ◌++◌, length, drop, get_or, append_assoc, length-append, add-one, arith}
+use Rattle.std.proofs.Common.{◌≡◌, refl, sym, ◌∙◌, ap, subst, ℕ, suc, ◌+◌, ◌<◌, ◌≤◌, Bool, true, false, List, [], ◌∷◌, ◌++◌, length, drop, get_or, append_assoc, add-one, arith}
 use Rattle.std.specs.Prelude.{codes, map}
 use Rattle.std.proofs.lemmas.List.{append-nil, drop_all}
 use Rattle.std.proofs.Math.Seq.{drop-cons}
 use Rattle.c_text.specs.TypeText.{listed, texts}
 use Rattle.c_text.specs.Rules.{Demand, behind}
 use Rattle.c_rules.specs.declared.walk.Walk.{Walk}
-use Rattle.c_rules.specs.Joined.{last}
 use Rattle.c_rules.specs.Walks.{Walks}
 use Rattle.c_rules.specs.Separated.{comma}
-use Rattle.c_rules.proofs.Walks.{followed, passed, stands, as_demands, as_text, behind_both}
+use Rattle.c_rules.proofs.Walks.{followed, stands, as_demands, as_text, behind_both}
 
 pub next_is : {X : Type 0} (xs : List X) (i : ℕ) (x : X) → i < length xs → x ≡ get_or xs i x → drop i xs ≡ x ∷ drop (i + 1) xs
 next_is xs i x below is = drop-cons xs i x below ∙ ap (λ y. y ∷ drop (suc i) xs) (sym is) ∙ ap (λ n. x ∷ drop n xs) (sym (add-one i))
@@ -29,7 +28,7 @@ module _ {S X : Type 0} (text : X → List ℕ) (item : S → ℕ → X → List
       → Walks now e (text x) (item s now.at x) → Going start e first (next s x) xs (drop (i + 1) xs)
   going_on start first {now} {e} s xs i x below is so_far one c rest =
       so_far c (subst (λ ys. Walks now c (texts (map text ys)) (asks s now.at ys)) (sym (next_is xs i x below is))
-          (followed (λ at. asks (next s x) at (drop (i + 1) xs)) one rest))
+      (followed (λ at. asks (next s x) at (drop (i + 1) xs)) one rest))
 
   pub all_gone : {start now : Walk} (first s : S) (xs : List X) (i : ℕ) → length xs ≤ i → Going start now first s xs (drop i xs) → Walks start now (texts (map text xs)) (asks first start.at xs)
   all_gone {start} {now} first s xs i past so_far =
@@ -70,10 +69,10 @@ module _ {S X : Type 0} (text : X → List ℕ) (item : S → ℕ → X → List
   listing_on start first {now} {m} {e} s more xs i x below is so_far separates one c rest =
       let ys : List X = drop (i + 1) xs in
       let place : behind (behind now.at (comma more ++ text x)) (codes ", ") ≡ behind (behind now.at (comma more)) (text x ++ codes ", ") =
-              sym (behind_both now.at (comma more ++ text x) (codes ", ")) ∙ ap (behind now.at) (append_assoc (comma more) (text x) (codes ", ")) ∙ behind_both now.at (comma more) (text x ++ codes ", ") in
+      sym (behind_both now.at (comma more ++ text x) (codes ", ")) ∙ ap (behind now.at) (append_assoc (comma more) (text x) (codes ", ")) ∙ behind_both now.at (comma more) (text x ++ codes ", ") in
       so_far c (subst (λ zs. Walks now c (rest_text more zs) (listed_asks s (behind now.at (comma more)) zs)) (sym (next_is xs i x below is))
-          (as_demands (ap (λ n. item s (behind now.at (comma more)) x ++ listed_asks (next s x) n ys) place)
-              (followed (λ at. listed_asks (next s x) (behind at (codes ", ")) ys) (followed (λ at. item s at x) separates one) rest)))
+      (as_demands (ap (λ n. item s (behind now.at (comma more)) x ++ listed_asks (next s x) n ys) place)
+      (followed (λ at. listed_asks (next s x) (behind at (codes ", ")) ys) (followed (λ at. item s at x) separates one) rest)))
 
   pub all_listed : {start now : Walk} (first s : S) (more : Bool) (xs : List X) (i : ℕ) → length xs ≤ i → Listing start now first s more xs (drop i xs)
       → Walks start now (listed (map text xs)) (listed_asks first start.at xs)

@@ -1,15 +1,14 @@
 -- Names that are added to those in scope, and taken out again.
-use Rattle.std.proofs.Common.{◌≡◌, refl, sym, ◌∙◌, ap, ℕ, zero, suc, ◌≤◌, List, [], ◌∷◌, ◌++◌, length, take, length-append, arith}
+use Rattle.std.proofs.Common.{◌≡◌, refl, sym, ◌∙◌, ap, ℕ, zero, suc, ◌≤◌, List, [], ◌∷◌, ◌++◌, length, take, arith}
 use Rattle.std.proofs.lemmas.List.{length-take}
 use Rattle.std.specs.Prelude.{Result, Ok, Err, OnOk, None}
 use Rattle.std.proofs.lemmas.List.{take-append-le, take_all}
-use Rattle.c_ast.specs.declared.types.CType.{CType}
 use Rattle.c_text.specs.Scopes as scopes
 use Rattle.c_text.specs.Scopes.{with_value, with_const}
 use Rattle.c_rules.specs.declared.names.Entry.{Entry}
 use Rattle.c_rules.specs.declared.names.Names.{Names}
 use Rattle.c_rules.specs.Kept.{Kept}
-use Rattle.c_rules.specs.Scope.{entity_view, names_view, with_values}
+use Rattle.c_rules.specs.Scope.{entity_view, names_view}
 use Rattle.c_rules.proofs.ScopeLists.{values_push}
 
 pub on_ok : {T E P Q : Type 0} (r : Result T E) → (P → Q) → OnOk r P → OnOk r Q

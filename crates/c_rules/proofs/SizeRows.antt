@@ -1,5 +1,5 @@
 -- Sizes that are counted up to a bound, along members and structs.
-use Rattle.std.proofs.Common.{◌≡◌, refl, sym, ◌∙◌, ap, ℕ, ◌+◌, ◌*◌, ◌<◌, ◌≤◌, Bool, true, false, if◌then◌else◌, List, [], ◌∷◌, ◌++◌, min, max, Option, Some, None, ⊎_elim, arith}
+use Rattle.std.proofs.Common.{◌≡◌, refl, sym, ◌∙◌, ap, ℕ, ◌+◌, ◌*◌, ◌≤◌, Bool, true, false, if◌then◌else◌, List, [], ◌∷◌, ◌++◌, min, max, Option, Some, None, ⊎_elim, arith}
 use Rattle.std.specs.Prelude.{map}
 use Rattle.std.specs.Option.{option_map}
 use Rattle.std.proofs.Math.Nat.{mul-le-mul_left}
@@ -13,14 +13,13 @@ use Rattle.c_ast.specs.declared.unit.CMember.{CMember}
 use Rattle.c_ast.specs.declared.unit.CStruct.{CStruct}
 use Rattle.c_ast.specs.Names.{named}
 use Rattle.c_ast.specs.Scalars.{metric_of}
-use Rattle.c_ast.specs.Structs.{CTree, CRow, look, or_empty, base_tree, times, row_of, struct_of, table, tree}
+use Rattle.c_ast.specs.Structs.{CTree, look, or_empty, base_tree, times, row_of, struct_of, table, tree}
 use Rattle.c_ast.specs.Syntax.{Name}
 use Rattle.c_ast.specs.Targets.{table_of}
 use Rattle.c_ast.proofs.Scalars.{types_have_alignments}
 use Rattle.c_ast.proofs.Promotions.{targets_are_sound}
 use Rattle.type_trees.specs.Layouts.{align, align_row, size, end_row}
 use Rattle.type_trees.specs.Multiples.{up}
-use Rattle.type_trees.specs.Trees.{Leaf, Many, Struct, End, Field}
 use Rattle.type_trees.proofs.Multiples.{up_from, up_none}
 use Rattle.c_rules.specs.declared.sizes.Size.{Size}
 use Rattle.c_rules.specs.declared.sizes.Sized.{Sized}
@@ -32,12 +31,13 @@ cap_times : (n s : ℕ) → capped (n * capped s) ≡ capped (n * s)
 cap_times n s = ⊎_elim
     (λ lt. let same : min s bound ≡ s = omega arith in ap (λ x. capped (n * x)) same)
     (λ le. let most : min s bound ≡ bound = omega arith in
-        let more : n * bound ≤ n * s = mul-le-mul_left n le in
-        ap (λ x. capped (n * x)) most ∙ beyond n (n * s) more (none n s))
+    let more : n * bound ≤ n * s = mul-le-mul_left n le in
+    ap (λ x. capped (n * x)) most ∙ beyond n (n * s) more (none n s))
     (cases_lt s bound)
   where
     none : (n s : ℕ) → n ≡ 0 → n * s ≡ 0
     none n s e = grind arith
+
     beyond : (n m : ℕ) → n * bound ≤ m → (n ≡ 0 → m ≡ 0) → capped (n * bound) ≡ capped m
     beyond n m more zero = grind arith
 
@@ -45,7 +45,7 @@ cap_end : (e a s : ℕ) → capped (up (capped e) a + capped s) ≡ capped (up e
 cap_end e a s = ⊎_elim
     (λ lt. let same : min e bound ≡ e = omega arith in ap (λ x. capped (up x a + capped s)) same ∙ omega arith)
     (λ le. let most : min e bound ≡ bound = omega arith in
-        ap (λ x. capped (up x a + capped s)) most ∙ omega (arith, up_from bound a, up_from e a))
+    ap (λ x. capped (up x a + capped s)) most ∙ omega (arith, up_from bound a, up_from e a))
     (cases_lt e bound)
 
 pub cap_up : (e a : ℕ) → capped (up (capped e) a) ≡ capped (up e a)

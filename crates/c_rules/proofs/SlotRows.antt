@@ -1,5 +1,5 @@
 -- Initializers in a row are those of the elements of an array, or of the members of a struct.
-use Rattle.std.proofs.Common.{◌≡◌, refl, ap, sym, ◌∙◌, ℕ, zero, suc, false, List, [], ◌∷◌, ◌++◌}
+use Rattle.std.proofs.Common.{◌≡◌, refl, ap, ◌∙◌, ℕ, zero, suc, false, List, [], ◌∷◌, ◌++◌}
 use Rattle.std.specs.Prelude.{codes, map}
 use Rattle.std.proofs.lemmas.List.{append-nil}
 use Rattle.c_ast.specs.declared.expr.CInit.{CInit}

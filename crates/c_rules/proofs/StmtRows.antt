@@ -1,5 +1,5 @@
 -- Statements in a row.
-use Rattle.std.proofs.Common.{◌≡◌, refl, ap, sym, ◌∙◌, subst, ℕ, Bool, List, [], ◌∷◌, ◌++◌}
+use Rattle.std.proofs.Common.{◌≡◌, refl, ap, ℕ, Bool, List, [], ◌∷◌, ◌++◌}
 use Rattle.std.specs.Prelude.{map}
 use Rattle.c_ast.specs.declared.stmt.CStmt.{CStmt}
 use Rattle.c_ast.specs.declared.types.CType.{CType}

@@ -1,5 +1,5 @@
 -- Declarations of each kind in a row, and a whole unit.
-use Rattle.std.proofs.Common.{◌≡◌, refl, sym, ◌∙◌, ap, ℕ, ◌+◌, List, [], ◌∷◌, ◌++◌, append_assoc, arith}
+use Rattle.std.proofs.Common.{◌≡◌, refl, sym, ◌∙◌, ap, ℕ, List, [], ◌∷◌, ◌++◌, append_assoc, arith}
 use Rattle.std.specs.Prelude.{map}
 use Rattle.std.proofs.lemmas.List.{append-nil}
 use Rattle.c_ast.specs.declared.types.Target.{Target}
@@ -18,7 +18,7 @@ use Rattle.c_text.specs.TypeText.{texts}
 use Rattle.c_text.specs.UnitRules.{file_scope, extern_demands, externs_demands, function_demands, functions_demands, object_demands, objects_demands, struct_demands, structs_demands, unit_demands}
 use Rattle.c_rules.specs.declared.names.Names.{Names}
 use Rattle.c_rules.specs.Kept.{OthersStay}
-use Rattle.c_rules.specs.Scope.{names_view, declared_signature, stop_alone, with_externs, with_functions}
+use Rattle.c_rules.specs.Scope.{names_view, stop_alone, with_externs, with_functions}
 use Rattle.c_rules.specs.UnitRows.{structs_asks, externs_asks, with_object, with_objects, objects_asks, with_signatures, with_function, functions_asks}
 use Rattle.c_rules.proofs.Rows.{asks}
 use Rattle.c_rules.proofs.Walks.{behind_both}
@@ -36,7 +36,7 @@ here at = omega arith
 
 objects_are : (target : Target) (structs : List CStruct) (functions : List (Name × Signature)) (objects : List (Name × Entity)) (at : ℕ) (os : List FileObject) (fs : List Function)
     → objects_demands target structs functions objects at os fs
-        ≡ objects_asks target (file_scope structs functions objects) at os ++ functions_asks target (with_objects (file_scope structs functions objects) os) (behind at (texts (map file_object_text os))) fs
+    ≡ objects_asks target (file_scope structs functions objects) at os ++ functions_asks target (with_objects (file_scope structs functions objects) os) (behind at (texts (map file_object_text os))) fs
 objects_are target structs functions objects at [] fs =
     functions_are target structs functions objects at fs ∙ ap (λ n. functions_asks target (file_scope structs functions objects) n fs) (here at)
 objects_are target structs functions objects at (o ∷ os) fs =
@@ -50,7 +50,7 @@ objects_are target structs functions objects at (o ∷ os) fs =
 
 externs_are : (target : Target) (structs : List CStruct) (functions : List (Name × Signature)) (at : ℕ) (xs : List CExtern) (os : List FileObject) (fs : List Function)
     → externs_demands target structs functions at xs os fs
-        ≡ externs_asks structs functions at xs ++ objects_demands target structs (with_externs functions xs) [] (behind at (texts (map extern_text xs))) os fs
+    ≡ externs_asks structs functions at xs ++ objects_demands target structs (with_externs functions xs) [] (behind at (texts (map extern_text xs))) os fs
 externs_are target structs functions at [] os fs = ap (λ n. objects_demands target structs functions [] n os fs) (here at)
 externs_are target structs functions at (x ∷ xs) os fs =
     let more : List (Name × Signature) = (x.name, extern_signature x) ∷ functions in
@@ -62,7 +62,7 @@ externs_are target structs functions at (x ∷ xs) os fs =
 
 structs_are : (target : Target) (earlier : List CStruct) (at : ℕ) (ss : List CStruct) (u : TranslationUnit)
     → structs_demands target earlier at ss u
-        ≡ structs_asks target earlier at ss ++ externs_demands target (earlier ++ ss) stop_alone (behind at (texts (map struct_text ss))) u.externs u.objects u.functions
+    ≡ structs_asks target earlier at ss ++ externs_demands target (earlier ++ ss) stop_alone (behind at (texts (map struct_text ss))) u.externs u.objects u.functions
 structs_are target earlier at [] u =
     ap (λ n. externs_demands target earlier stop_alone n u.externs u.objects u.functions) (here at)
     ∙ ap (λ ss. externs_demands target ss stop_alone (behind at []) u.externs u.objects u.functions) (sym (append-nil earlier))

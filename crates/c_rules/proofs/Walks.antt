@@ -1,5 +1,5 @@
 -- Walks one after another, and rules that are asked for late.
-use Rattle.std.proofs.Common.{◌≡◌, refl, sym, ◌∙◌, ap, subst, ℕ, ◌+◌, ◌<◌, ◌≤◌, Bool, true, false, List, [], ◌∷◌, ◌++◌, length, Option, Some, None, append_assoc, length-append, arith}
+use Rattle.std.proofs.Common.{◌≡◌, refl, sym, ◌∙◌, ap, subst, ℕ, ◌+◌, ◌≤◌, Bool, true, false, List, [], ◌∷◌, ◌++◌, length, Option, Some, None, length-append, arith}
 use Rattle.std.specs.Prelude.{nat_lt, if◌then◌else◌}
 use Rattle.std.proofs.lemmas.Bool.Decides.{nat_tests}
 use Rattle.std.proofs.lemmas.List.{append-nil}
@@ -132,11 +132,13 @@ module _ {a b c : Walk} {t u : List ℕ} {ds : List Demand} where
     where
       fits : a.at + length (t ++ u) ≤ last → (a.at + length t ≤ last) × ((a.at + length t) + length u ≤ last)
       fits h = let e : length (t ++ u) ≡ length t + length u = length-append t u in (omega arith, omega arith)
+
       place : a.at + length (t ++ u) ≤ last → c.at ≡ a.at + length (t ++ u)
       place h =
           let f = fits h in
           let at : b.at ≡ a.at + length t = first.place f.0 in
           second.place (omega (arith, at, f.1)) ∙ ap (λ n. n + length u) at ∙ sym (behind_both a.at t u)
+
       fault : a.at + length (t ++ u) ≤ last → c.fault ≡ joined a.fault (first_fault (ds ++ es (behind a.at t)))
       fault h =
           let f = fits h in

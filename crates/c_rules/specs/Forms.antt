@@ -1,5 +1,5 @@
 -- How a statement is written behind the spaces of its line.
-use Rattle.std.specs.Prelude.{ℕ, ◌+◌, List, [], ◌∷◌, ◌++◌, codes}
+use Rattle.std.specs.Prelude.{ℕ, ◌+◌, List, [], ◌++◌, codes}
 use Rattle.c_ast.specs.Syntax.{Stmt, Const, ConstCall, Object, Assign, If, IfElse, Forever, Break, Return, Block, Call, Stmts}
 use Rattle.c_text.specs.TypeText.{line, const_text, object_text}
 use Rattle.c_text.specs.ExpressionText.{expr_text, place_text, call_text}

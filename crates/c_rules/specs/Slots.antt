@@ -1,5 +1,5 @@
 -- Initializers one by one: what each is for, and what is asked of them in a row.
-use Rattle.std.specs.Prelude.{ℕ, zero, suc, Bool, false, List, [], ◌∷◌, ◌++◌, codes}
+use Rattle.std.specs.Prelude.{ℕ, zero, suc, false, List, [], ◌++◌, codes}
 use Rattle.c_ast.specs.declared.types.Target.{Target}
 use Rattle.c_ast.specs.Structs.{CTree, CRow, row_of, table, tree}
 use Rattle.c_ast.specs.Syntax.{Init, Inits, NoInits, MoreInits}

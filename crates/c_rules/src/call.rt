@@ -111,7 +111,10 @@ fn result_is_given(names: &Names, wanted: &Wanted, called: &Signature) -> bool
     match called.result() {
         Wanted::Void => false,
         Wanted::Scalar(scalar) => may_be_given(&ValueType::Number(CKind::Scalar(scalar)), wanted),
-        Wanted::Pointer(constant, base) => may_be_given(&ValueType::Pointer(constant, base), wanted),
+        Wanted::Pointer(constant, base) => may_be_given(
+            &ValueType::Pointer(constant, base),
+            wanted,
+        ),
     }
 }
 
@@ -140,9 +143,18 @@ pub fn check_call<'u>(
     let called = names.called(&call.name);
     walk.ask(walk.at, CWhy::BadName, is_called(&called));
     walk.ask(walk.at, CWhy::BadType, is_counted(&called, call.args.len()));
-    walk.ask(walk.at, CWhy::BadType, is_result_wanted(names, wanted, &called));
+    walk.ask(
+        walk.at,
+        CWhy::BadType,
+        is_result_wanted(names, wanted, &called),
+    );
     walk.pass(call.name.as_slice());
     walk.pass(b"(");
-    check_args(names, params_called(names, &called), call.args.as_slice(), walk);
+    check_args(
+        names,
+        params_called(names, &called),
+        call.args.as_slice(),
+        walk,
+    );
     walk.pass(b")");
 }

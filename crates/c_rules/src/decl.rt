@@ -42,11 +42,7 @@ pub fn check_object(names: &Names, base: &CBase, name: &Word, walk: &mut Walk)
 }
 
 /// Puts a name into scope.
-pub fn declare<'u>(
-    names: &mut Names<'u>,
-    name: &'u Word,
-    entity: Entity<'u>,
-) -> Result<(), Memory>
+pub fn declare<'u>(names: &mut Names<'u>, name: &'u Word, entity: Entity<'u>) -> Result<(), Memory>
     ensures view { OnOk result (names_view names.new ≡ with_value (names_view names.old) name.now (entity_view entity.entry)) }
     ensures kept { OnOk result (Kept names.old names.new) }
 {
@@ -54,11 +50,7 @@ pub fn declare<'u>(
 }
 
 /// Puts a name that holds a value into scope.
-pub fn declare_const<'u>(
-    names: &mut Names<'u>,
-    name: &'u Word,
-    ty: &'u CType,
-) -> Result<(), Memory>
+pub fn declare_const<'u>(names: &mut Names<'u>, name: &'u Word, ty: &'u CType) -> Result<(), Memory>
     ensures view { OnOk result (names_view names.new ≡ with_const (names_view names.old) name.now ty.now) }
     ensures kept { OnOk result (Kept names.old names.new) }
 {

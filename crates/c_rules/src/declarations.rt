@@ -51,7 +51,12 @@ fn check_object_line<'u>(names: &Names<'u>, object: &'u CObject, walk: &mut Walk
     walk.pass(const_name(object.constant));
     check_file_name(names, &object.name, walk);
     walk.pass(b" = ");
-    check_init(names, &shape_of(names.structs, &base_of(&object.base)), &object.init, walk);
+    check_init(
+        names,
+        &shape_of(names.structs, &base_of(&object.base)),
+        &object.init,
+        walk,
+    );
     walk.pass(b";");
     walk.pass(b"\n");
 }

@@ -136,7 +136,11 @@ fn check_name<'u>(names: &Names<'u>, name: &Word, walk: &mut Walk) -> PlaceType<
     let function = names.is_function(name);
     walk.ask(walk.at, CWhy::BadName, either(declared, function));
     walk.ask(walk.at, CWhy::BadType, !function);
-    walk.ask(walk.at, CWhy::BadType, either(names.in_function(), !declared));
+    walk.ask(
+        walk.at,
+        CWhy::BadType,
+        either(names.in_function(), !declared),
+    );
     walk.pass(name.as_slice());
     names.place_of(&entity)
 }
@@ -213,7 +217,11 @@ pub fn check_expr<'u>(names: &Names<'u>, e: &'u CExpr, walk: &mut Walk) -> Value
             walk.pass(b" ");
             let second = check_expr(names, right.get(), walk);
             walk.pass(b")");
-            walk.ask(at, CWhy::BadType, both(is_number(&first), is_number(&second)));
+            walk.ask(
+                at,
+                CWhy::BadType,
+                both(is_number(&first), is_number(&second)),
+            );
             of_binary(names.target, *op, &first, &second)
         }
         CExpr::Cast(ty, e) => {

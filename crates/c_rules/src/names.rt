@@ -52,11 +52,7 @@ pub struct Names<'u> {
 }
 
 /// The later of two entities of a name, if the later one is declared by this entry.
-fn later_entity<'u>(
-    found: Option<Entity<'u>>,
-    entry: &Entry<'u>,
-    name: &Word,
-) -> Option<Entity<'u>>
+fn later_entity<'u>(found: Option<Entity<'u>>, entry: &Entry<'u>, name: &Word) -> Option<Entity<'u>>
     ensures { entity_found result ≡ (if same_word entry.now.name.now name.now then Some (entity_view entry.now.entity) else entity_found found.entry) }
 {
     if *entry.name == *name {

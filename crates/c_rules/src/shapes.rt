@@ -62,11 +62,7 @@ pub fn shape_of<'u>(structs: &'u [CStruct], base: &Base<'u>) -> Shape<'u>
 }
 
 /// An array of it, where there is a length.
-pub fn times_shape<'u>(
-    length: Option<u32>,
-    structs: &'u [CStruct],
-    base: &Base<'u>,
-) -> Shape<'u>
+pub fn times_shape<'u>(length: Option<u32>, structs: &'u [CStruct], base: &Base<'u>) -> Shape<'u>
     ensures { shape_view result ≡ times length (tree structs.now (base_view base.now)) }
 {
     match length {
@@ -141,11 +137,7 @@ pub fn of_element<'u>(place: &PlaceType<'u>, index: &ValueType<'u>) -> PlaceType
     }
 }
 
-fn of_stored_element<'u>(
-    constant: bool,
-    shape: &Shape<'u>,
-    index: &ValueType<'u>,
-) -> PlaceType<'u>
+fn of_stored_element<'u>(constant: bool, shape: &Shape<'u>, index: &ValueType<'u>) -> PlaceType<'u>
     ensures { place_view result ≡ option_and_then (static_types.of_element (static_types.Stored constant (shape_view shape.now))) (value_view index.now) }
 {
     match shape {

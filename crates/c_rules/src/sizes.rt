@@ -124,7 +124,9 @@ fn up(offset: u64, align: u64) -> u64
 pub fn end_of(offset: u64, size: &Size) -> u64
     ensures { result ≡ ended offset size.now }
 {
-    up(offset, size.align.max(1)).saturating_add(size.bytes).min(BOUND)
+    up(offset, size.align.max(1))
+        .saturating_add(size.bytes)
+        .min(BOUND)
 }
 
 /// The size of a struct whose last member ends there.

@@ -58,13 +58,7 @@ fn pass_length(length: Option<u32>, walk: &mut Walk)
 }
 
 /// The type and the name of a member, behind others, that ends in time or not.
-fn check_declared(
-    names: &Names,
-    earlier: &[CMember],
-    member: &CMember,
-    ends: bool,
-    walk: &mut Walk,
-)
+fn check_declared(names: &Names, earlier: &[CMember], member: &CMember, ends: bool, walk: &mut Walk)
     ensures { Walks walk.old walk.new (object_text member.now.base member.now.name) (member_asks (names_view names.now) earlier.now ends walk.old.at member.now) }
 {
     let at = walk.at;
@@ -77,13 +71,7 @@ fn check_declared(
     walk.pass(member.name.as_slice());
 }
 
-fn check_member(
-    names: &Names,
-    earlier: &[CMember],
-    member: &CMember,
-    ends: bool,
-    walk: &mut Walk,
-)
+fn check_member(names: &Names, earlier: &[CMember], member: &CMember, ends: bool, walk: &mut Walk)
     ensures { Walks walk.old walk.new (member_text member.now) (member_asks (names_view names.now) earlier.now ends (behind walk.old.at (codes "  ")) member.now) }
 {
     walk.pass(b"  ");

@@ -11,7 +11,9 @@ ghost use Rattle.c_text.specs.Rules.{where_typed};
 ghost use Rattle.c_text.specs.ExpressionRules as rules;
 ghost use Rattle.c_rules.specs.Views.{base_view, value_view, type_view, chosen};
 
-use c_ast::{Arith, CBase, CBinary, CKind, CScalar, CType, CUnary, Suffix, Target, common, promote};
+use c_ast::{
+    Arith, CBase, CBinary, CKind, CScalar, CType, CUnary, Suffix, Target, common, promote,
+};
 use iv_words::Word;
 
 /// The type of an object that is no array: a scalar, or the struct of a tag.

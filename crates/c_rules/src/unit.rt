@@ -134,30 +134,32 @@ fn pass_fixed(walk: &mut Walk)
     walk.pass(b"#include <stdint.h>\n#include <stdbool.h>\nextern void ivory_stop(uint32_t);\n");
 }
 
-fn check_unit(
-    alloc: Global,
-    unit: &CUnit,
-    target: Target,
-    walk: &mut Walk,
-) -> Result<(), Memory>
+fn check_unit(alloc: Global, unit: &CUnit, target: Target, walk: &mut Walk) -> Result<(), Memory>
     requires { walk.old.at ≡ 0 }
     ensures { OnOk result (Walks walk.old walk.new (unit_text (unit_of unit.now)) (unit_demands target (unit_of unit.now))) }
 {
     pass_fixed(walk);
     check_structs(alloc, target, unit.structs.as_slice(), walk)?;
-    check_externs(alloc, target, unit.structs.as_slice(), unit.externs.as_slice(), walk);
-    let mut names = names_behind(alloc, target, unit.structs.as_slice(), unit.externs.as_slice());
+    check_externs(
+        alloc,
+        target,
+        unit.structs.as_slice(),
+        unit.externs.as_slice(),
+        walk,
+    );
+    let mut names = names_behind(
+        alloc,
+        target,
+        unit.structs.as_slice(),
+        unit.externs.as_slice(),
+    );
     check_objects(&mut names, unit.objects.as_slice(), walk)?;
     check_functions(&mut names, unit.functions.as_slice(), walk)
 }
 
 /// The first place of a unit's text that breaks a rule of names or of types, or none where its names and types are right. Of two that
 /// are broken at one place, a rule of names comes first. The text has at most 268,435,456 bytes, so that its places fit.
-pub fn first_broken(
-    alloc: Global,
-    unit: &CUnit,
-    target: Target,
-) -> Result<Option<CFault>, Memory>
+pub fn first_broken(alloc: Global, unit: &CUnit, target: Target) -> Result<Option<CFault>, Memory>
     ensures { IfOk result (λ fault. length (unit_text (unit_of unit.now)) ≤ 268435456 → fault ≡ first_fault (unit_demands target (unit_of unit.now))) }
 {
     let mut walk = Walk { at: 0, fault: None };

@@ -16,9 +16,9 @@ pub loop-arg-preserved : goal.loop-arg-preserved
 loop-arg-preserved c =
     rw c.rest-params.ensures
     (listing_on (λ e. expr_text (expr_of e)) (item c.args.names.now.target (names_view c.args.names.now)) next c.args.walk.now (params_view c.args.params) (params_view c.loop-arg.params) c.loop-arg.more c.args.args.now c.loop-arg.arg-index c.arg-item.result c.loop-arg-test.true c.arg-item.is c.loop-arg.invariant c.pass_comma.ensures
-        (rw c.first.ensures at c.check_arg.ensures))
+    (rw c.first.ensures at c.check_arg.ensures))
 
 pub returns : goal.returns
 returns c =
     as_text (ap listed (sym (map-map expr_text expr_of c.args.args.now))) (as_demands (args_are c.args.names.now.target (names_view c.args.names.now) (params_view c.args.params) c.args.walk.now.at c.args.args.now)
-        (all_listed (λ e. expr_text (expr_of e)) (item c.args.names.now.target (names_view c.args.names.now)) next (params_view c.args.params) (params_view c.loop-arg.params) c.loop-arg.more c.args.args.now c.loop-arg.arg-index c.loop-arg-test.false c.loop-arg.invariant))
+    (all_listed (λ e. expr_text (expr_of e)) (item c.args.names.now.target (names_view c.args.names.now)) next (params_view c.args.params) (params_view c.loop-arg.params) c.loop-arg.more c.args.args.now c.loop-arg.arg-index c.loop-arg-test.false c.loop-arg.invariant))

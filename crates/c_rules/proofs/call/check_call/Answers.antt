@@ -14,14 +14,14 @@ returns c =
     let counted : c.len.result ≡ length (map expr_of c.args.call.now.args) = c.len.ensures ∙ sym (length-map c.args.call.now.args expr_of) in
     passed
     (followed (λ at. args_demands c.args.names.now.target (names_view c.args.names.now) at (params_of c.args.names.now.target (names_view c.args.names.now) (named (names_view c.args.names.now).functions c.args.call.now.name)) (map expr_of c.args.call.now.args))
-        (passed
-            (passed
-                (asked_again ResultIsWanted
-                    (asked_again ArgumentsAreCounted
-                        (asked_here CalledIsEarlier (rw (c.is_called.ensures, c.called-called.ensures) at c.ask.ensures))
-                        (rw (c.is_counted.ensures, c.called-called.ensures, counted) at c.ask-2.ensures))
-                    (rw (c.is_result_wanted.ensures, c.called-called.ensures) at c.ask-3.ensures))
-                (rw c.as_slice.ensures at c.pass.ensures))
-            c.pass-2.ensures)
-        (rw (c.params_called.ensures, c.called-called.ensures, c.as_slice-2.ensures) at c.check_args.ensures))
+    (passed
+    (passed
+    (asked_again ResultIsWanted
+    (asked_again ArgumentsAreCounted
+    (asked_here CalledIsEarlier (rw (c.is_called.ensures, c.called-called.ensures) at c.ask.ensures))
+    (rw (c.is_counted.ensures, c.called-called.ensures, counted) at c.ask-2.ensures))
+    (rw (c.is_result_wanted.ensures, c.called-called.ensures) at c.ask-3.ensures))
+    (rw c.as_slice.ensures at c.pass.ensures))
+    c.pass-2.ensures)
+    (rw (c.params_called.ensures, c.called-called.ensures, c.as_slice-2.ensures) at c.check_args.ensures))
     c.pass-3.ensures

@@ -1,4 +1,4 @@
-use Rattle.std.proofs.Common.{ap, sym, ◌++◌, []}
+use Rattle.std.proofs.Common.{ap, sym, ◌++◌}
 use Rattle.std.proofs.lemmas.List.{append-nil}
 use Rattle.std.specs.Prelude.{codes}
 use Rattle.c_text.specs.Rules.{NameIsNew, behind}
@@ -13,5 +13,5 @@ pub returns : goal.returns
 returns c =
     as_demands (ap (λ t. base_demands (names_view c.args.names.now) c.args.walk.now.at c.args.base.now ++ new_name (names_view c.args.names.now) (behind c.args.walk.now.at t) c.args.name.now) (sym (append-nil (base_text c.args.base.now ++ codes " "))))
     (passed
-        (asked_next NameIsNew (passed c.check_base.ensures.walks c.pass.ensures) (rw c.is_taken-taken.ensures at c.ask.ensures))
-        (rw c.as_slice.ensures at c.pass-2.ensures))
+    (asked_next NameIsNew (passed c.check_base.ensures.walks c.pass.ensures) (rw c.is_taken-taken.ensures at c.ask.ensures))
+    (rw c.as_slice.ensures at c.pass-2.ensures))

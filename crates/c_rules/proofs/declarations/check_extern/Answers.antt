@@ -18,9 +18,9 @@ returns c =
     (ap (λ n. head ++ file_name (names_view c.args.names.now) n x.name ++ types_demands (names_view c.args.names.now) (behind (behind at (codes "extern " ++ typed_text x.result x.name)) (codes "(")) x.params) (sym (behind_both at (codes "extern ") (typed_text x.result [])))
     ∙ ap (λ n. head ++ file_name (names_view c.args.names.now) (behind at (codes "extern " ++ typed_text x.result [])) x.name ++ types_demands (names_view c.args.names.now) n x.params) (params_begin at (codes "extern ") (type_text x.result) (gap_text x.result) x.name (codes "(")))
     (passed
-        (passed
-            (followed (λ n. types_demands (names_view c.args.names.now) (behind n (codes "(")) x.params)
-                (followed (λ n. type_demands (names_view c.args.names.now) n x.result ++ file_name (names_view c.args.names.now) (behind n (typed_text x.result [])) x.name) c.pass.ensures c.check_typed.ensures)
-                (rw c.as_slice.ensures at c.check_types.ensures))
-            c.pass-2.ensures)
-        c.pass-3.ensures)
+    (passed
+    (followed (λ n. types_demands (names_view c.args.names.now) (behind n (codes "(")) x.params)
+    (followed (λ n. type_demands (names_view c.args.names.now) n x.result ++ file_name (names_view c.args.names.now) (behind n (typed_text x.result [])) x.name) c.pass.ensures c.check_typed.ensures)
+    (rw c.as_slice.ensures at c.check_types.ensures))
+    c.pass-2.ensures)
+    c.pass-3.ensures)

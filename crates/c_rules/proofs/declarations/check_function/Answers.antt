@@ -1,7 +1,6 @@
 use Rattle.std.proofs.Common.{◌≡◌, ◌++◌, ◌∙◌, ap, refl, []}
 use Rattle.std.specs.Prelude.{codes, map, false, List, ℕ}
 use Rattle.c_ast.specs.View.{stmts_of}
-use Rattle.c_ast.specs.declared.types.Target.{Target}
 use Rattle.c_text.specs.Rules.{Demand, behind}
 use Rattle.c_text.specs.Scopes.{Names}
 use Rattle.c_text.specs.Spelling.{storage_text, param_text, params_text}
@@ -29,19 +28,19 @@ returns-clause-walks c =
     let view : names_view c.check_params.new.names ≡ with_params within f.params = rw c.as_slice.ensures at c.in_ok-check_params.ensures.view in
     as_text (function_lines (storage_text f.hidden) (typed_text f.result f.name) (params_text (map param_text f.params)) (codes " ") (line (codes "{")) (stmts_text 1 (stmts_of f.body)) [] (codes "}") (line []))
     (as_demands
-        (ap (λ n. head ++ params n ++ body (behind at (storage_text f.hidden ++ typed_text f.result f.name ++ params_text (map param_text f.params) ++ line (codes " {"))))
-            (function_params at (storage_text f.hidden) (type_text f.result) (gap_text f.result) f.name)
-        ∙ ap (λ n. head ++ params (behind (behind (behind at (storage_text f.hidden)) (typed_text f.result [])) f.name) ++ body n)
-            (function_body at (storage_text f.hidden) (type_text f.result) (gap_text f.result) f.name (params_text (map param_text f.params)) (line (codes " {"))))
-        (passed
-            (followed body
-                (passed
-                    (followed params
-                        (followed (λ n. type_demands (names_view c.args.names.now) n f.result ++ file_name (names_view c.args.names.now) (behind n (typed_text f.result [])) f.name) (rw c.storage_name.ensures at c.pass.ensures) c.check_typed.ensures)
-                        (rw c.as_slice.ensures at c.in_ok-check_params.ensures.walks))
-                    c.pass-2.ensures)
-                (rw (c.wanted_of-wanted.ensures, c.as_slice-2.ensures, in_is, none_is, same_target, view) at c.in_ok-check_stmts.ensures.walks))
-            c.pass-3.ensures))
+    (ap (λ n. head ++ params n ++ body (behind at (storage_text f.hidden ++ typed_text f.result f.name ++ params_text (map param_text f.params) ++ line (codes " {"))))
+    (function_params at (storage_text f.hidden) (type_text f.result) (gap_text f.result) f.name)
+    ∙ ap (λ n. head ++ params (behind (behind (behind at (storage_text f.hidden)) (typed_text f.result [])) f.name) ++ body n)
+    (function_body at (storage_text f.hidden) (type_text f.result) (gap_text f.result) f.name (params_text (map param_text f.params)) (line (codes " {"))))
+    (passed
+    (followed body
+    (passed
+    (followed params
+    (followed (λ n. type_demands (names_view c.args.names.now) n f.result ++ file_name (names_view c.args.names.now) (behind n (typed_text f.result [])) f.name) (rw c.storage_name.ensures at c.pass.ensures) c.check_typed.ensures)
+    (rw c.as_slice.ensures at c.in_ok-check_params.ensures.walks))
+    c.pass-2.ensures)
+    (rw (c.wanted_of-wanted.ensures, c.as_slice-2.ensures, in_is, none_is, same_target, view) at c.in_ok-check_stmts.ensures.walks))
+    c.pass-3.ensures))
 
 pub returns-clause-same : goal.returns-clause-same
 returns-clause-same c =

@@ -20,19 +20,19 @@ returns c =
     let head = base_demands (names_view c.args.names.now) (behind at (codes "static ")) o.base in
     as_demands
     (ap (λ n. head ++ file_name (names_view c.args.names.now) n o.name ++ init_demands c.args.names.now.target (names_view c.args.names.now) (behind at (codes "static " ++ base_text o.base ++ codes " " ++ base_const_text o.constant ++ o.name ++ codes " = ")) base (init_of o.init))
-        (object_name at (codes "static ") (base_text o.base) (codes " ") (base_const_text o.constant))
+    (object_name at (codes "static ") (base_text o.base) (codes " ") (base_const_text o.constant))
     ∙ ap (λ n. head ++ file_name (names_view c.args.names.now) (behind (behind at (codes "static ")) (base_text o.base ++ codes " " ++ base_const_text o.constant)) o.name ++ init_demands c.args.names.now.target (names_view c.args.names.now) n base (init_of o.init))
-        (object_init at (codes "static ") (base_text o.base) (codes " ") (base_const_text o.constant) o.name (codes " = ")))
+    (object_init at (codes "static ") (base_text o.base) (codes " ") (base_const_text o.constant) o.name (codes " = ")))
     (passed
-        (passed
-            (followed (λ n. init_demands c.args.names.now.target (names_view c.args.names.now) n base (init_of o.init))
-                (passed
-                    (followed (λ n. file_name (names_view c.args.names.now) n o.name)
-                        (passed
-                            (passed (followed (λ n. base_demands (names_view c.args.names.now) n o.base) c.pass.ensures c.check_base.ensures.walks) c.pass-2.ensures)
-                            (rw c.const_name.ensures at c.pass-3.ensures))
-                        c.check_file_name.ensures)
-                    c.pass-4.ensures)
-                (rw (c.shape_of.ensures, c.base_of.ensures) at c.check_init.ensures))
-            c.pass-5.ensures)
-        c.pass-6.ensures)
+    (passed
+    (followed (λ n. init_demands c.args.names.now.target (names_view c.args.names.now) n base (init_of o.init))
+    (passed
+    (followed (λ n. file_name (names_view c.args.names.now) n o.name)
+    (passed
+    (passed (followed (λ n. base_demands (names_view c.args.names.now) n o.base) c.pass.ensures c.check_base.ensures.walks) c.pass-2.ensures)
+    (rw c.const_name.ensures at c.pass-3.ensures))
+    c.check_file_name.ensures)
+    c.pass-4.ensures)
+    (rw (c.shape_of.ensures, c.base_of.ensures) at c.check_init.ensures))
+    c.pass-5.ensures)
+    c.pass-6.ensures)

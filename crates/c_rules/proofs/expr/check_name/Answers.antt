@@ -11,10 +11,10 @@ pub returns-clause-walks : goal.returns-clause-walks
 returns-clause-walks c =
     passed
     (asked_again FileScopeHasNoNames
-        (asked_again NameIsPlace
-            (asked_here NameIsKnown (rw (c.either.ensures, c.is_found-declared.ensures, c.entity-entity.ensures, c.is_function-function.ensures) at c.ask.ensures))
-            (rw c.is_function-function.ensures at c.ask-2.ensures))
-        (rw (c.either-2.ensures, c.in_function.ensures, c.is_found-declared.ensures, c.entity-entity.ensures) at c.ask-3.ensures))
+    (asked_again NameIsPlace
+    (asked_here NameIsKnown (rw (c.either.ensures, c.is_found-declared.ensures, c.entity-entity.ensures, c.is_function-function.ensures) at c.ask.ensures))
+    (rw c.is_function-function.ensures at c.ask-2.ensures))
+    (rw (c.either-2.ensures, c.in_function.ensures, c.is_found-declared.ensures, c.entity-entity.ensures) at c.ask-3.ensures))
     (rw c.as_slice.ensures at c.pass.ensures)
 
 pub returns-clause-ty : goal.returns-clause-ty

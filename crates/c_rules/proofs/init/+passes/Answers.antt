@@ -21,4 +21,4 @@ pass_inits-loop-init-preserved t c =
 pub pass_inits-returns : goal.pass_inits-returns
 pass_inits-returns t c =
     as_text (ap listed (texts_are c.args.inits.now)) (as_demands (nothing_in_row 0 c.args.walk.now.at c.args.inits.now)
-        (all_listed (λ i. init_text (init_of i)) no_item same 0 0 c.loop-init.more c.args.inits.now c.loop-init.init-index c.loop-init-test.false c.loop-init.invariant))
+    (all_listed (λ i. init_text (init_of i)) no_item same 0 0 c.loop-init.more c.args.inits.now c.loop-init.init-index c.loop-init-test.false c.loop-init.invariant))

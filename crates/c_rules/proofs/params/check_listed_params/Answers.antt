@@ -1,4 +1,4 @@
-use Rattle.std.proofs.Common.{◌≡◌, ◌+◌, ◌∙◌, refl, true, sym, ap, subst, drop}
+use Rattle.std.proofs.Common.{◌+◌, ◌∙◌, refl, true, sym, ap, subst, drop}
 use Rattle.c_text.specs.Spelling.{param_text}
 use Rattle.c_text.specs.UnitRules.{with_params}
 use Rattle.c_rules.specs.Scope.{names_view}

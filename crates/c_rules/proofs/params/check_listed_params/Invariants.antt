@@ -11,5 +11,5 @@ abbrev pub invariant-loop-param : goal.invariant-loop-param
 invariant-loop-param l = record {
   listing : Listing param_text param_item with_param l.initial.walk l.walk (names_view l.initial.names) (names_view l.names) l.more l.params (drop l.param-index l.params);
   view : with_params (names_view l.names) (drop l.param-index l.params) ≡ with_params (names_view l.initial.names) l.params;
-  kept : Kept l.initial.names l.names
+  kept : Kept l.initial.names l.names;
 }

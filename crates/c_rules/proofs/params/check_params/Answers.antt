@@ -2,7 +2,6 @@ use Rattle.c_text.specs.Rules.{behind}
 use Rattle.c_text.specs.Spelling.{param_text}
 use Rattle.c_text.specs.UnitRules.{params_demands}
 use Rattle.std.specs.Prelude.{codes}
-use Rattle.std.proofs.Common.{◌∙◌, sym}
 use Rattle.c_rules.specs.Scope.{names_view}
 use Rattle.c_rules.proofs.ParamRows.{none_listed, some_listed, no_params, with_none}
 use Rattle.c_rules.proofs.Scopes.{stays}

@@ -10,5 +10,5 @@ use Rattle.c_rules.proofs.stmt.+stmts.Given as goal
 abbrev pub invariant-check_stmts-loop-stmt : goal.invariant-check_stmts-loop-stmt
 invariant-check_stmts-loop-stmt l = record {
   going : Going (text (depth l.braces)) (item l.initial.names.target (type_view l.wanted) l.in_loop (depth l.braces)) next l.initial.walk l.walk (names_view l.initial.names) (names_view l.names) l.stmts (drop l.stmt-index l.stmts);
-  kept : Kept l.initial.names l.names
+  kept : Kept l.initial.names l.names;
 }

@@ -13,7 +13,7 @@ pub returns-in-Some : goal.returns-in-Some
 returns-in-Some c =
     rw c.in-Some.is
     (passed
-        (followed (λ at. given_demands c.args.names.now.target (names_view c.args.names.now) at (type_view c.args.wanted.now) (expr_of c.in-Some.value))
-            (passed (asked_here ReturnMatches (rw c.is_void-in-Some.ensures at c.ask-in-Some.ensures)) c.pass-in-Some.ensures)
-            c.check_given.ensures)
-        c.pass-in-Some-2.ensures)
+    (followed (λ at. given_demands c.args.names.now.target (names_view c.args.names.now) at (type_view c.args.wanted.now) (expr_of c.in-Some.value))
+    (passed (asked_here ReturnMatches (rw c.is_void-in-Some.ensures at c.ask-in-Some.ensures)) c.pass-in-Some.ensures)
+    c.check_given.ensures)
+    c.pass-in-Some-2.ensures)

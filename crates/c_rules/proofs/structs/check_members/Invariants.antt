@@ -12,5 +12,5 @@ abbrev pub invariant-loop-i : goal.invariant-loop-i
 invariant-loop-i l = record {
   going : Going member_text (item l.names.target l.names.structs.now) next l.initial.walk l.walk [] (take l.i l.members) l.members (drop l.i l.members);
   end : l.end ≡ capped (end_row (metric_of l.names.target) (row_of (table [] l.names.structs.now) (take l.i l.members)) 0);
-  align : l.align ≡ align_row (metric_of l.names.target) (row_of (table [] l.names.structs.now) (take l.i l.members))
+  align : l.align ≡ align_row (metric_of l.names.target) (row_of (table [] l.names.structs.now) (take l.i l.members));
 }

@@ -1,4 +1,4 @@
-use Rattle.std.proofs.Common.{◌≡◌, ◌+◌, sym, subst, drop, take, ℕ}
+use Rattle.std.proofs.Common.{◌+◌, sym, subst, drop, take, ℕ}
 use Rattle.c_ast.specs.declared.unit.CExtern.{CExtern}
 use Rattle.c_text.specs.Spelling.{extern_text}
 use Rattle.c_text.specs.UnitRules.{extern_demands}
@@ -19,7 +19,7 @@ loop-i-preserved c =
     let i : ℕ = c.loop-i.i in
     let xs = c.args.externs.now in
     let one : Walks c.loop-i.walk c.check_extern.new.walk (extern_text x) (extern_item c.args.structs.now (with_externs stop_alone (take i xs)) c.loop-i.walk.at x) =
-            subst (λ n. Walks c.loop-i.walk c.check_extern.new.walk (extern_text x) (extern_demands n c.loop-i.walk.at x)) c.names_behind-names.ensures.view c.check_extern.ensures in
+    subst (λ n. Walks c.loop-i.walk c.check_extern.new.walk (extern_text x) (extern_demands n c.loop-i.walk.at x)) c.names_behind-names.ensures.view c.check_extern.ensures in
     subst (λ s. Going extern_text (extern_item c.args.structs.now) extern_next c.args.walk.now c.check_extern.new.walk stop_alone s xs (drop (i + 1) xs)) (sym (externs_more stop_alone xs i x c.loop-i-test.true c.index-externs-i.is))
     (going_on extern_text (extern_item c.args.structs.now) extern_next c.args.walk.now stop_alone (with_externs stop_alone (take i xs)) xs i x c.loop-i-test.true c.index-externs-i.is c.loop-i.invariant one)
 

@@ -1,6 +1,5 @@
 use Rattle.std.proofs.Common.{◌≡◌, ◌+◌, ◌∙◌, refl, ap, sym, subst, drop, take, ℕ}
 use Rattle.std.proofs.lemmas.Simd.{map-map}
-use Rattle.c_ast.specs.declared.types.Target.{Target}
 use Rattle.c_ast.specs.declared.unit.CFunction.{CFunction}
 use Rattle.c_ast.specs.View.{function_of}
 use Rattle.c_text.specs.Scopes as scopes
@@ -31,9 +30,9 @@ loop-i-preserved c =
     let same_target : c.loop-i.names.target ≡ c.args.names.now.target = ap (λ n. n.target) c.loop-i.invariant.others in
     let told : scopes.Names = with_signatures (names_view c.loop-i.names) (with_functions (with_externs stop_alone c.loop-i.names.externs.now) (take i fs)) in
     let one : Walks c.loop-i.walk c.check_behind.new.walk (function_line f) (function_item c.args.names.now.target told c.loop-i.walk.at f) =
-            subst (λ x. Walks c.loop-i.walk c.check_behind.new.walk (function_line f) (function_item x told c.loop-i.walk.at f)) same_target c.in_ok-check_behind.ensures.walks in
+    subst (λ x. Walks c.loop-i.walk c.check_behind.new.walk (function_line f) (function_item x told c.loop-i.walk.at f)) same_target c.in_ok-check_behind.ensures.walks in
     let here : Walks c.loop-i.walk c.check_behind.new.walk (function_line f) (function_item c.args.names.now.target scope c.loop-i.walk.at f) =
-            subst (λ x. Walks c.loop-i.walk c.check_behind.new.walk (function_line f) (function_item c.args.names.now.target x c.loop-i.walk.at f)) (scope_is c.args.names.now c.loop-i.names (take i fs) c.requires.none c.loop-i.invariant.others) one in
+    subst (λ x. Walks c.loop-i.walk c.check_behind.new.walk (function_line f) (function_item c.args.names.now.target x c.loop-i.walk.at f)) (scope_is c.args.names.now c.loop-i.names (take i fs) c.requires.none c.loop-i.invariant.others) one in
     record {
       going = subst (λ s. Going function_line (function_item c.args.names.now.target) function_next c.args.walk.now c.check_behind.new.walk (names_view c.args.names.now) (with_signatures (names_view c.args.names.now) s) fs (drop (i + 1) fs))
           (sym (functions_more first.functions fs i f c.loop-i-test.true c.index-functions-i.is))
@@ -44,4 +43,4 @@ loop-i-preserved c =
 pub returns : goal.returns
 returns c =
     as_text (ap texts (sym (map-map function_text function_of c.args.functions.now))) (as_demands (functions_row c.args.names.now.target (names_view c.args.names.now) c.args.walk.now.at c.args.functions.now)
-        (all_gone function_line (function_item c.args.names.now.target) function_next (names_view c.args.names.now) (with_signatures (names_view c.args.names.now) (with_functions (names_view c.args.names.now).functions (take c.loop-i.i c.args.functions.now))) c.args.functions.now c.loop-i.i c.loop-i-test.false c.loop-i.invariant.going))
+    (all_gone function_line (function_item c.args.names.now.target) function_next (names_view c.args.names.now) (with_signatures (names_view c.args.names.now) (with_functions (names_view c.args.names.now).functions (take c.loop-i.i c.args.functions.now))) c.args.functions.now c.loop-i.i c.loop-i-test.false c.loop-i.invariant.going))

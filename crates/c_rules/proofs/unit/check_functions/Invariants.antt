@@ -9,5 +9,5 @@ use Rattle.c_rules.proofs.unit.check_functions.Given as goal
 abbrev pub invariant-loop-i : goal.invariant-loop-i
 invariant-loop-i l = record {
   going : Going function_line (function_item l.initial.names.target) function_next l.initial.walk l.walk (names_view l.initial.names) (with_signatures (names_view l.initial.names) (with_functions (names_view l.initial.names).functions (take l.i l.functions))) l.functions (drop l.i l.functions);
-  others : OthersStay l.initial.names l.names
+  others : OthersStay l.initial.names l.names;
 }

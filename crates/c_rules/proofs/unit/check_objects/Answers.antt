@@ -25,7 +25,7 @@ loop-object-preserved c =
     let os = c.args.objects.now in
     let same_target : c.loop-object.names.target ≡ c.args.names.now.target = ap (λ n. n.target) c.loop-object.invariant.kept.others in
     let one : Walks c.loop-object.walk c.check_file_object.new.walk (object_line o) (object_item c.args.names.now.target (names_view c.loop-object.names) c.loop-object.walk.at o) =
-            subst (λ x. Walks c.loop-object.walk c.check_file_object.new.walk (object_line o) (object_item x (names_view c.loop-object.names) c.loop-object.walk.at o)) same_target c.check_file_object.ensures.walks in
+    subst (λ x. Walks c.loop-object.walk c.check_file_object.new.walk (object_line o) (object_item x (names_view c.loop-object.names) c.loop-object.walk.at o)) same_target c.check_file_object.ensures.walks in
     record {
       going = subst (λ s. Going object_line (object_item c.args.names.now.target) object_next c.args.walk.now c.check_file_object.new.walk (names_view c.args.names.now) s os (drop (i + 1) os)) (sym c.in_ok-check_file_object.ensures.view)
           (going_on object_line (object_item c.args.names.now.target) object_next c.args.walk.now (names_view c.args.names.now) (names_view c.loop-object.names) os i o c.loop-object-test.true c.object-item.is c.loop-object.invariant.going one);
@@ -37,7 +37,7 @@ loop-object-preserved c =
 pub returns-clause-walks : goal.returns-clause-walks
 returns-clause-walks c =
     as_text (ap texts (sym (map-map file_object_text object_of c.args.objects.now))) (as_demands (objects_row c.args.names.now.target (names_view c.args.names.now) c.args.walk.now.at c.args.objects.now)
-        (all_gone object_line (object_item c.args.names.now.target) object_next (names_view c.args.names.now) (names_view c.loop-object.names) c.args.objects.now c.loop-object.object-index c.loop-object-test.false c.loop-object.invariant.going))
+    (all_gone object_line (object_item c.args.names.now.target) object_next (names_view c.args.names.now) (names_view c.loop-object.names) c.args.objects.now c.loop-object.object-index c.loop-object-test.false c.loop-object.invariant.going))
 
 pub returns-clause-view : goal.returns-clause-view
 returns-clause-view c = sym (ap (λ l. with_objects (names_view c.loop-object.names) (map object_of l)) (drop_all c.loop-object.object-index c.args.objects.now c.loop-object-test.false)) ∙ c.loop-object.invariant.view

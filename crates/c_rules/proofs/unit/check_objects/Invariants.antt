@@ -12,5 +12,5 @@ abbrev pub invariant-loop-object : goal.invariant-loop-object
 invariant-loop-object l = record {
   going : Going object_line (object_item l.initial.names.target) object_next l.initial.walk l.walk (names_view l.initial.names) (names_view l.names) l.objects (drop l.object-index l.objects);
   view : with_objects (names_view l.names) (map object_of (drop l.object-index l.objects)) ≡ with_objects (names_view l.initial.names) (map object_of l.objects);
-  kept : Kept l.initial.names l.names
+  kept : Kept l.initial.names l.names;
 }

@@ -1,9 +1,7 @@
 use Rattle.std.proofs.Common.{◌≡◌, ◌+◌, ◌++◌, ◌∷◌, ◌∙◌, [], sym, ap, subst, drop, take, refl, ℕ}
-use Rattle.std.proofs.lemmas.List.{map-append}
 use Rattle.c_ast.specs.declared.unit.CStruct.{CStruct}
 use Rattle.c_ast.specs.Structs.{row_of, table}
 use Rattle.c_text.specs.Spelling.{struct_text}
-use Rattle.c_rules.specs.declared.sizes.Sized.{Sized}
 use Rattle.c_rules.specs.Sizes.{row_size, sized_view, sizes_of}
 use Rattle.c_rules.specs.Walks.{Walks}
 use Rattle.c_rules.proofs.MemberRows.{taken}
@@ -26,9 +24,9 @@ loop-i-preserved c =
     let ss = c.args.structs.now in
     let step : take (i + 1) ss ≡ take i ss ++ s ∷ [] = taken ss i s c.loop-i-test.true c.index-structs-i.is in
     let one : Walks c.loop-i.walk c.check_struct-size.new.walk (struct_text s) (struct_item c.args.target (take i ss) c.loop-i.walk.at s) =
-            rw (c.names_behind-names.ensures.target, c.names_behind-names.ensures.structs) at c.check_struct-size.ensures.walks in
+    rw (c.names_behind-names.ensures.target, c.names_behind-names.ensures.structs) at c.check_struct-size.ensures.walks in
     let size_is : c.check_struct-size.result ≡ row_size c.args.target (row_of (table [] (take i ss)) s.members) =
-            rw (c.names_behind-names.ensures.target, c.names_behind-names.ensures.structs) at c.check_struct-size.ensures.size in
+    rw (c.names_behind-names.ensures.target, c.names_behind-names.ensures.structs) at c.check_struct-size.ensures.size in
     record {
       going = subst (λ l. Going struct_text (struct_item c.args.target) struct_next c.args.walk.now c.check_struct-size.new.walk [] l ss (drop (i + 1) ss)) (sym step)
           (going_on struct_text (struct_item c.args.target) struct_next c.args.walk.now [] (take i ss) ss i s c.loop-i-test.true c.index-structs-i.is c.loop-i.invariant.going one);

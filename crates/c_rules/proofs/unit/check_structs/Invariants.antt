@@ -8,5 +8,5 @@ use Rattle.c_rules.proofs.unit.check_structs.Given as goal
 abbrev pub invariant-loop-i : goal.invariant-loop-i
 invariant-loop-i l = record {
   going : Going struct_text (struct_item l.target) struct_next l.initial.walk l.walk [] (take l.i l.structs) l.structs (drop l.i l.structs);
-  sized : sized_view l.sized ≡ sizes_of l.target (take l.i l.structs)
+  sized : sized_view l.sized ≡ sizes_of l.target (take l.i l.structs);
 }

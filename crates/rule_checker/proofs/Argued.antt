@@ -1,7 +1,6 @@
 -- The first fault of a call, from its rule and the faults of its arguments.
-use Rattle.std.proofs.Common.{◌≡◌, ℕ, ◌+◌, ◌<◌, Bool, true, false, not, nat_eq, List, [], ◌∷◌, ◌++◌, map, length, get_or, drop, drop-cons, add-one, refl, ap, sym, ◌∙◌}
+use Rattle.std.proofs.Common.{◌≡◌, ℕ, ◌+◌, ◌<◌, Bool, not, nat_eq, List, [], ◌∷◌, map, length, get_or, drop, drop-cons, add-one, refl, ap, sym, ◌∙◌}
 use Rattle.std.specs.Prelude.{Option, Some, None, option_map, is_some}
-use Rattle.iv_words.specs.declared.Span.{Span}
 use Rattle.iv_words.specs.Words.{same_word}
 use Rattle.ivory_tree.specs.Syntax.{ExprSyntax, CallSyntax}
 use Rattle.ivory_tree.specs.View.{expr_of}
@@ -13,7 +12,7 @@ use Rattle.rule_faults.specs.Contexts.{Context}
 use Rattle.rule_faults.specs.Nodes.{ACall}
 use Rattle.rule_faults.specs.Tests.{where_there}
 use Rattle.rule_faults.specs.ExpressionRows.{expr_row, params_of, args_row, call_row}
-use Rattle.rule_faults.specs.FirstFault.{least_broken, first_of}
+use Rattle.rule_faults.specs.FirstFault.{first_of}
 use Rattle.rule_checker.specs.Faults.{either, at_place}
 use Rattle.rule_checker.specs.Rows.{least, all_rows}
 use Rattle.rule_checker.specs.Arguments.{argument_want, learned, Splits, call_rows}

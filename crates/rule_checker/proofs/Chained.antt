@@ -2,10 +2,8 @@
 use Rattle.std.proofs.Common.{◌≡◌, ℕ, suc, length, nat_lt, arith, Bool, true, false, not, ◌&&◌, ◌||◌, cond, List, [], ◌∷◌, map, refl, ap, sym, ◌∙◌}
 use Rattle.std.specs.Prelude.{Option, Some, None}
 use Rattle.std.proofs.lemmas.Bool.Decides.{nat_tests}
-use Rattle.iv_words.specs.declared.IntKind.{IntKind}
-use Rattle.iv_words.specs.declared.Name.{Name}
 use Rattle.iv_words.specs.declared.Span.{Span}
-use Rattle.ivory_tree.specs.Syntax.{Word, ExprSyntax, Literal, Truth, Outcome, Variable, Cast, ToIndex, WrapIndex, MakeBits, Raw, SetField, Prefix, Binary, Field, Element, Cond, Bare}
+use Rattle.ivory_tree.specs.Syntax.{ExprSyntax, Literal, Truth, Outcome, Variable, Cast, ToIndex, WrapIndex, MakeBits, Raw, SetField, Prefix, Binary, Field, Element, Cond, Bare}
 use Rattle.ivory_tree.specs.Places.{expr_span}
 use Rattle.ivory_tree.specs.View.{LinkSyntax, StepSyntax, FieldStep, IndexStep, prefix_span, linked, chain_from, step_span, part_of, stepped, postfix_from, expr_of, link_of, step_of}
 use Rattle.ivory_tree.specs.declared.expr.Expr.{Expr}
@@ -28,7 +26,7 @@ use Rattle.rule_faults.specs.FirstFault.{first_of}
 use Rattle.rule_checker.specs.Chains.{has_steps, link_type, step_type}
 use Rattle.rule_checker.specs.Faults.{either, at_place}
 use Rattle.rule_checker.specs.Rows.{least, node_rule, differ, binary_rows}
-use Rattle.rule_checker.specs.Links.{has_links, step_want, step_fault, steps_fault, said, next_want, right_want, operand, link_fault, chain_fault}
+use Rattle.rule_checker.specs.Links.{has_links, step_fault, steps_fault, said, next_want, right_want, operand, link_fault, chain_fault}
 use Rattle.rule_checker.proofs.Linked.{chain_view, postfix_view}
 use Rattle.rule_checker.proofs.Patterns.{binary_told, field_told, element_told}
 

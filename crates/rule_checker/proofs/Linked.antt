@@ -1,6 +1,6 @@
 -- A chain is the left-nested tree of its links, and a postfix that of its steps.
 use Rattle.std.proofs.Common.{◌≡◌, ℕ, suc, arith, cond, ◌||◌, Bool, length, nat_lt, true, false, List, [], ◌∷◌, map, refl, ap, ◌∙◌}
-use Rattle.std.specs.Prelude.{Option, Some, None}
+use Rattle.std.specs.Prelude.{Option, None}
 use Rattle.std.proofs.lemmas.Bool.Decides.{nat_tests}
 use Rattle.iv_words.specs.declared.Span.{Span}
 use Rattle.ivory_tree.specs.Syntax.{ExprSyntax, Binary}

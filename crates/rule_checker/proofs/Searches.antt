@@ -1,6 +1,6 @@
 -- A name is among others where a search finds it.
 use Rattle.std.proofs.Common.{◌≡◌, ℕ, ◌+◌, Bool, true, false, ◌||◌, cond, List, [], ◌∷◌, refl}
-use Rattle.std.specs.Prelude.{Option, Some, None, is_some}
+use Rattle.std.specs.Prelude.{Option, Some, is_some}
 use Rattle.std.specs.List.{list_any, find, position_from}
 
 found_with : {A : Type 0} (b : Bool) (x : A) (o : Option A) (rest : Bool) → is_some o ≡ rest → is_some (cond b (Some x) o) ≡ b || rest

@@ -1,8 +1,8 @@
 -- The first fault of an initializer, from its rule and what is within it.
-use Rattle.std.proofs.Common.{◌≡◌, ℕ, suc, ◌+◌, ◌<◌, Bool, true, false, List, [], ◌∷◌, ◌++◌, map, length, get_or, drop, drop-cons, add-one, refl, ap, sym, ◌∙◌, arith}
+use Rattle.std.proofs.Common.{◌≡◌, ℕ, ◌+◌, ◌<◌, Bool, true, false, List, [], ◌∷◌, map, length, get_or, drop, drop-cons, add-one, refl, ap, sym, ◌∙◌, arith}
 use Rattle.std.specs.Prelude.{Option, Some, None}
 use Rattle.iv_words.specs.declared.Span.{Span}
-use Rattle.ivory_tree.specs.Syntax.{ExprSyntax, Binary, InitSyntax, One, Many, InitsSyntax, NoInits, MoreInits}
+use Rattle.ivory_tree.specs.Syntax.{ExprSyntax, Binary, One, Many, InitsSyntax, MoreInits}
 use Rattle.ivory_tree.specs.Places.{expr_span}
 use Rattle.ivory_tree.specs.View.{LinkSyntax, StepSyntax, FieldStep, IndexStep, prefix_span, linked, chain_from, step_span, part_of, stepped, postfix_from, expr_of, link_of, step_of, init_of, inits_of}
 use Rattle.ivory_tree.specs.declared.expr.ExprKind.TheVariants as kind
@@ -19,7 +19,7 @@ use Rattle.rule_faults.specs.Contexts.{Context}
 use Rattle.rule_faults.specs.Nodes.{AnInit}
 use Rattle.rule_faults.specs.ItemRules.{inits_count, is_number, is_first_value}
 use Rattle.rule_faults.specs.ExpressionRows.{expr_row, of_cell, place_in, init_row, inits_row}
-use Rattle.rule_faults.specs.FirstFault.{least_broken, first_of}
+use Rattle.rule_faults.specs.FirstFault.{first_of}
 use Rattle.rule_checker.specs.Faults.{either, at_place}
 use Rattle.rule_checker.specs.Rows.{least, all_rows}
 use Rattle.rule_checker.specs.Starts.{one_rows, many_rows}

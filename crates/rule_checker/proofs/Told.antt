@@ -1,5 +1,5 @@
 -- The fault of a node, from its rule and the fault within it.
-use Rattle.std.proofs.Common.{◌≡◌, ℕ, Bool, refl, ap, sym, ◌∙◌}
+use Rattle.std.proofs.Common.{◌≡◌, ℕ, Bool, ap, sym, ◌∙◌}
 use Rattle.std.specs.Prelude.{Option}
 use Rattle.iv_words.specs.declared.Span.{Span}
 use Rattle.area_types.specs.Syntax.{ValueType}

@@ -1,16 +1,12 @@
 -- What is wanted of the arguments of a call, one after another, and what is known of the regions after each.
 use Rattle.std.specs.Prelude.{◌≡◌, ℕ, Bool, true, not, nat_eq, length, List, [], ◌∷◌, ◌++◌, Option, Some, None}
-use Rattle.iv_words.specs.declared.Span.{Span}
 use Rattle.ivory_tree.specs.Syntax.{ExprSyntax}
 use Rattle.area_types.specs.Syntax.{ValueType}
 use Rattle.region_check.specs.Calls.{Passed}
 use Rattle.source_types.specs.Environments.{Callee}
 use Rattle.rule_faults.specs.Contexts.{Context}
-use Rattle.rule_faults.specs.Tests.{where_there}
 use Rattle.rule_faults.specs.Wants.{Want, Nothing, of_argument}
-use Rattle.rule_faults.specs.ExpressionRows.{expr_row, matched}
-use Rattle.rule_faults.specs.FirstFault.{first_of}
-use Rattle.rule_checker.specs.Faults.{either}
+use Rattle.rule_faults.specs.ExpressionRows.{matched}
 use Rattle.rule_checker.specs.View.{reference_seen}
 use Rattle.rule_checker.specs.declared.matched.Matched.{Matched}
 

@@ -1,5 +1,5 @@
 -- What the code knows at a place, as the rules see it.
-use Rattle.std.specs.Prelude.{List, map, option_map}
+use Rattle.std.specs.Prelude.{map, option_map}
 use Rattle.area_types.specs.View.{type_of, area_of, struct_of}
 use Rattle.source_types.specs.Environments.{Earlier, AreaDeclared, Callee}
 use Rattle.rule_faults.specs.Contexts as rules

@@ -1,5 +1,5 @@
 -- The first fault of a chain and of a postfix, from the first link or step on. A fault of a later operator comes first, since it is the outer one.
-use Rattle.std.specs.Prelude.{ℕ, Bool, true, false, not, ◌||◌, if◌then◌else◌, List, [], ◌∷◌, Option, Some, None, option_and_then, option_map}
+use Rattle.std.specs.Prelude.{ℕ, Bool, true, false, not, ◌||◌, if◌then◌else◌, List, [], ◌∷◌, Option, None, option_and_then, option_map}
 use Rattle.iv_words.specs.declared.Name.{Name}
 use Rattle.iv_words.specs.declared.Span.{Span}
 use Rattle.ivory_tree.specs.Places.{expr_span}

@@ -1,5 +1,5 @@
-use Rattle.std.proofs.Common.{◌≡◌, ℕ, ◌+◌, List, map, drop, ap, sym, ◌∙◌}
-use Rattle.std.specs.Prelude.{Option, Some, None, option_map}
+use Rattle.std.proofs.Common.{◌+◌, List, map, drop, ap, sym, ◌∙◌}
+use Rattle.std.specs.Prelude.{Option, option_map}
 use Rattle.std.specs.Option.{option_copied}
 use Rattle.area_types.specs.Syntax.{ValueType}
 use Rattle.area_types.specs.View.{type_of}

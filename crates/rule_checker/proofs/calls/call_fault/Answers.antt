@@ -1,4 +1,4 @@
-use Rattle.std.proofs.Common.{◌≡◌, ℕ, [], List, map, length, ap, sym, ◌∙◌}
+use Rattle.std.proofs.Common.{ℕ, [], List, map, ap, sym, ◌∙◌}
 use Rattle.std.specs.Prelude.{Option}
 use Rattle.std.proofs.lemmas.List.{length-map}
 use Rattle.area_types.specs.Syntax.{ValueType}

@@ -1,5 +1,5 @@
-use Rattle.std.proofs.Common.{◌≡◌, map, true, false, ap, sym, ◌∙◌}
-use Rattle.ivory_tree.specs.View.{expr_of, link_of, step_of}
+use Rattle.std.proofs.Common.{map, ap, sym, ◌∙◌}
+use Rattle.ivory_tree.specs.View.{expr_of, link_of}
 use Rattle.ivory_tree.specs.Syntax.{Bare}
 use Rattle.ivory_tree.specs.declared.expr.Expr.{Expr}
 use Rattle.source_types.specs.Settled.{settled}

@@ -1,5 +1,5 @@
 use Rattle.std.proofs.Common.{◌≡◌, ℕ, ◌+◌, ◌<◌, List, length, get_or, drop, subst, ap, sym, ◌∙◌}
-use Rattle.std.specs.Prelude.{Option, Some, None}
+use Rattle.std.specs.Prelude.{Option}
 use Rattle.ivory_tree.specs.View.{init_of, inits_of}
 use Rattle.ivory_tree.specs.declared.inits.InitText.{InitText}
 use Rattle.area_types.specs.Syntax.{Area}

@@ -1,4 +1,4 @@
-use Rattle.std.proofs.Common.{◌≡◌, ℕ, ap, sym, ◌∙◌}
+use Rattle.std.proofs.Common.{ℕ, ap, ◌∙◌}
 use Rattle.rule_checker.specs.Contexts.{context_of}
 use Rattle.rule_checker.specs.Rows.{least}
 use Rattle.rule_checker.specs.Starts.{many_rows}

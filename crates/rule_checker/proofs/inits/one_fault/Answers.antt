@@ -1,4 +1,4 @@
-use Rattle.std.proofs.Common.{◌≡◌, ap, sym, ◌∙◌}
+use Rattle.std.proofs.Common.{ap, ◌∙◌}
 use Rattle.ivory_tree.specs.View.{expr_of}
 use Rattle.rule_faults.specs.ExpressionRows.{expr_row}
 use Rattle.rule_faults.specs.FirstFault.{first_of}

@@ -1,5 +1,5 @@
-use Rattle.std.proofs.Common.{◌≡◌, map, drop}
-use Rattle.std.specs.List.{list_any, find, position_from}
+use Rattle.std.proofs.Common.{◌≡◌, drop}
+use Rattle.std.specs.List.{find}
 use Rattle.iv_words.specs.Words.{same_word}
 use Rattle.ivory_tree.specs.declared.items.BitField.{BitField}
 use Rattle.rule_checker.proofs.lookups.bit_field_in.Given as goal

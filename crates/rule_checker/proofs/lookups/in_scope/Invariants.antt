@@ -1,5 +1,5 @@
 use Rattle.std.proofs.Common.{◌≡◌, map, drop}
-use Rattle.std.specs.List.{list_any, find, position_from}
+use Rattle.std.specs.List.{list_any}
 use Rattle.iv_words.specs.Words.{same_word}
 use Rattle.rule_faults.specs.Contexts.{Local}
 use Rattle.rule_checker.specs.Contexts.{local_of}

@@ -1,7 +1,4 @@
-use Rattle.std.proofs.Common.{◌≡◌, map, true, false, ap, sym, ◌∙◌}
-use Rattle.ivory_tree.specs.View.{expr_of, link_of, step_of}
-use Rattle.source_types.specs.Settled.{settled}
-use Rattle.rule_checker.specs.Chains.{chain_settled, has_steps}
+use Rattle.std.proofs.Common.{sym, ◌∙◌}
 use Rattle.rule_checker.proofs.Linked.{chain_is_settled, postfix_settled_then, postfix_settled_else}
 use Rattle.rule_checker.proofs.settled.+settled.Goals as goal
 

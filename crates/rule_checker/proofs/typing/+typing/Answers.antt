@@ -1,9 +1,9 @@
-use Rattle.std.proofs.Common.{◌≡◌, map, None, true, false, Option, ap, sym, ◌∙◌}
-use Rattle.ivory_tree.specs.View.{expr_of, link_of, step_of}
+use Rattle.std.proofs.Common.{map, None, Option, ap, sym, ◌∙◌}
+use Rattle.ivory_tree.specs.View.{expr_of, step_of}
 use Rattle.ivory_tree.specs.declared.expr.Expr.{Expr}
 use Rattle.area_types.specs.Syntax.{ValueType}
 use Rattle.rule_faults.specs.Types.{type_of}
-use Rattle.rule_checker.specs.Chains.{has_steps, steps_type}
+use Rattle.rule_checker.specs.Chains.{steps_type}
 use Rattle.rule_checker.specs.Contexts.{context_of}
 use Rattle.rule_checker.specs.View.{type_seen}
 use Rattle.rule_checker.proofs.Linked.{chain_has_type, postfix_type_then, postfix_type_else}

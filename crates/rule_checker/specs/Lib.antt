@@ -1,0 +1,10 @@
+pub mod Faults
+pub mod View
+pub mod Contexts
+pub mod Lookups
+pub mod Chains
+pub mod Wanted
+pub mod Rows
+pub mod Links
+pub mod Starts
+pub mod Arguments

@@ -1,6 +1,6 @@
 -- What a form that answers comes to, by its answer and its checks.
-use Rattle.std.proofs.Common.{◌≡◌, ℕ, zero, suc, ℤ, List, [], ◌∷◌, Bool, true, false, Some, None, Ok, Err, refl, ap, sym, ◌∙◌, subst}
-use Rattle.std.specs.Prelude.{◌||◌, if◌then◌else◌, not, Option, Result}
+use Rattle.std.proofs.Common.{◌≡◌, ℕ, zero, suc, ℤ, List, [], ◌∷◌, Bool, true, false, Some, None, Ok, Err, refl, ap, ◌∙◌}
+use Rattle.std.specs.Prelude.{◌||◌, if◌then◌else◌, not}
 use Rattle.std.specs.List.{list_any}
 use Rattle.run_records.specs.declared.Reason.TheVariants.{Dead}
 use Rattle.step_semantics.specs.Steps as steps
@@ -8,15 +8,10 @@ use Rattle.step_semantics.specs.Steps.{Part, Finished, Halted, FailedCheck, NoMe
 use Rattle.core_tree.specs.declared.Check.{Check}
 use Rattle.core_tree.specs.declared.SiteKind.{SiteKind}
 use Rattle.core_tree.specs.Syntax.{ModuleCore, Label}
-use Rattle.core_meaning.specs.Values.{Value, Num}
+use Rattle.core_meaning.specs.Values.{Num}
 use Rattle.core_meaning.specs.State.{State, seen}
-use Rattle.core_meaning.specs.Checks.{Answer, same_kind, passes, tests_of, covered, answered, answering, formless}
-use Rattle.run_world.specs.declared.Stopped.{Stopped}
-use Rattle.run_world.specs.declared.World.{World}
-use Rattle.run_world.specs.Comes.{Comes}
+use Rattle.core_meaning.specs.Checks.{Answer, same_kind, passes, tests_of, covered, answering, formless}
 use Rattle.core_run.specs.Forms.{first_site}
-use Rattle.core_run.specs.State.{value_of}
-use Rattle.core_run.specs.declared.value.Value as code
 
 pub tick_same : {A : Type 0} (f g : Part State A) (n : ℕ) (w : steps.World) (s : State) → ((m : ℕ) → f m w s ≡ g m w s) → tick f n w s ≡ tick g n w s
 tick_same f g zero w s h = refl

@@ -1,12 +1,12 @@
 -- Rows of parts as lists: the part at a place, and another put there.
-use Rattle.std.proofs.Common.{◌≡◌, ℕ, zero, suc, ◌+◌, ◌<◌, ◌≤◌, ℤ, List, [], ◌∷◌, ◌++◌, length, map, get_or, Some, None, refl, ap, sym, ◌∙◌, arith, append_assoc, append-nil}
-use Rattle.std.specs.Prelude.{slice_get, Option}
+use Rattle.std.proofs.Common.{◌≡◌, ℕ, zero, suc, ◌<◌, ◌≤◌, ℤ, List, [], ◌∷◌, ◌++◌, length, map, get_or, Some, None, refl, ap, sym, ◌∙◌, arith, append_assoc, append-nil}
+use Rattle.std.specs.Prelude.{slice_get}
 use Rattle.std.specs.Option.{option_map}
 use Rattle.std.proofs.lemmas.Option.{slice_get_read, slice_get-map}
 use Rattle.std.proofs.Math.ListN.{set}
 use Rattle.std.proofs.lemmas.List.{map-set}
-use Rattle.type_trees.specs.Trees.{part, part_row, Leaf, Many, Struct}
-use Rattle.type_trees.specs.Values.{Value, Values, Cell, Parts, Nil, Cons, cells, cells_row, at, at_row, put, put_row}
+use Rattle.type_trees.specs.Trees.{part, part_row}
+use Rattle.type_trees.specs.Values.{Value, Cons, cells, cells_row, at, at_row, put, put_row}
 use Rattle.area_types.specs.Trees as trees
 use Rattle.core_run.specs.declared.held.Held.{Held}
 use Rattle.core_run.specs.Types.{fields_from, row_of, held_of}

@@ -1,6 +1,5 @@
 -- What the code's state says in the words of the meaning.
-use Rattle.std.specs.Prelude.{ℕ, List, map, take, reverse}
-use Rattle.step_semantics.specs.Frames.{Frames}
+use Rattle.std.specs.Prelude.{ℕ, map, reverse}
 use Rattle.core_meaning.specs.Values as meaning
 use Rattle.core_meaning.specs.Areas as areas
 use Rattle.core_meaning.specs.State as states

@@ -28,7 +28,6 @@ impl Model for Ready {
     ghost use Rattle.area_types.specs.Trees as trees;
     ghost use Rattle.area_types.specs.View.{struct_of};
     ghost use Rattle.core_run.specs.Types.{written_of};
-
     ghost use Rattle.area_types.specs.contracts.Area as area;
     ghost use Rattle.area_types.specs.contracts.ValueType as ty;
     ghost use Rattle.core_tree.specs.contracts.CoreExpr as expr;

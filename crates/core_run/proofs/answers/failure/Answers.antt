@@ -1,6 +1,6 @@
 use Rattle.std.proofs.lemmas.Result.{err_from_is_err_and}
-use Rattle.std.proofs.Common.{refl, ap}
-use Rattle.run_world.proofs.Comes.{ticked, not_ticked}
+use Rattle.std.proofs.Common.{ap}
+use Rattle.run_world.proofs.Comes.{not_ticked}
 use Rattle.core_run.specs.State.{value_of}
 use Rattle.step_semantics.specs.Steps.{FailedCheck, halt, tick}
 use Rattle.core_meaning.specs.State.{State}

@@ -2,7 +2,7 @@ use Rattle.std.proofs.lemmas.Result.{err_from_is_err_and}
 use Rattle.std.proofs.Common.{ap, sym, ◌∙◌}
 use Rattle.std.specs.Int.{w128}
 use Rattle.std.proofs.lemmas.Int.{to_z-of_z}
-use Rattle.run_world.proofs.Comes.{ticked, not_ticked}
+use Rattle.run_world.proofs.Comes.{not_ticked}
 use Rattle.core_run.specs.State.{value_of}
 use Rattle.step_semantics.specs.Steps.{Finished, give, tick}
 use Rattle.core_meaning.specs.State.{State}

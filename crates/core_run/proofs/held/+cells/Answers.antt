@@ -1,4 +1,4 @@
-use Rattle.std.proofs.Common.{◌≡◌, ◌∙◌, ◌∷◌, ◌++◌, [], take, map, sym, ap, append_assoc}
+use Rattle.std.proofs.Common.{◌∙◌, ◌∷◌, ◌++◌, [], take, map, sym, ap, append_assoc}
 use Rattle.std.proofs.lemmas.List.{map_more}
 use Rattle.type_trees.specs.Values.{cells, cells_row}
 use Rattle.core_run.specs.Types.{held_of, row_of}

@@ -1,4 +1,4 @@
-use Rattle.std.proofs.Common.{◌≡◌, ◌∙◌, ◌∷◌, ◌++◌, [], take, map, sym, ap}
+use Rattle.std.proofs.Common.{◌∙◌, ◌∷◌, ◌++◌, [], take, map, sym, ap}
 use Rattle.std.proofs.lemmas.List.{map_more}
 use Rattle.area_types.specs.Trees.{tree_of, trees_of}
 use Rattle.area_types.specs.View.{field_of, struct_of}

@@ -1,4 +1,4 @@
-use Rattle.std.proofs.Common.{◌≡◌, take, map, drop, length}
+use Rattle.std.proofs.Common.{◌≡◌, take, map}
 use Rattle.area_types.specs.Trees as trees
 use Rattle.area_types.specs.View.{struct_of}
 use Rattle.core_run.specs.Types.{written_of}

@@ -1,7 +1,6 @@
-use Rattle.std.proofs.Common.{◌≡◌, ◌∙◌, ◌+◌, ◌<◌, map, length, get_or, sym, ap, subst, arith}
+use Rattle.std.proofs.Common.{◌≡◌, map, get_or, sym, ap, subst, arith}
 use Rattle.std.proofs.lemmas.List.{length-map}
 use Rattle.core_meaning.specs.Areas.{put_part, Areas}
-use Rattle.core_meaning.specs.State.{State}
 use Rattle.core_run.specs.Types.{held_of}
 use Rattle.core_run.specs.State.{slot_of, state_of}
 use Rattle.core_run.proofs.Places.{at_place_replaced, at_place_past}

@@ -1,9 +1,8 @@
-use Rattle.std.proofs.Common.{◌≡◌, ◌∙◌, ◌+◌, ◌<◌, map, length, get_or, refl, sym, ap, subst, arith}
+use Rattle.std.proofs.Common.{◌∙◌, ◌+◌, ◌<◌, map, length, sym, ap, arith}
 use Rattle.std.proofs.Math.ListN.{length-set}
 use Rattle.std.proofs.lemmas.List.{length-map}
 use Rattle.core_meaning.specs.Areas.{AreaState, Gone, from_place}
 use Rattle.core_run.specs.State.{slot_of}
-use Rattle.core_run.specs.declared.state.Slot.TheVariants as slot
 use Rattle.core_run.proofs.Places.{at_place_gone, from_place_next, from_place_past}
 use Rattle.core_run.proofs.state.State.take_from.Goals as goal
 

@@ -1,0 +1,5 @@
+pub mod Views
+pub mod Rows
+pub mod Structs
+pub mod Places
+pub mod Answering

@@ -1,1 +1,6 @@
 pub mod Answers
+pub mod Gives
+pub mod Levels
+pub mod Scanned
+pub mod Words
+pub mod Numbers

@@ -3,5 +3,11 @@
 #![tactic(auto)]
 
 mod answer;
+mod fault;
+mod kind;
+mod leaf;
+mod number;
+mod scan;
+mod words;
 
 pub use answer::{UnitFault, parse_unit};

@@ -7,7 +7,7 @@ use Rattle.grammars.specs.Grammar.{of_kind, token}
 use Rattle.grammars.specs.Reader.{at_symbol, read_with, read}
 use Rattle.c_grammar.specs.Pieces.{Piece, pieces}
 use Rattle.c_grammar.specs.Kinds.{lexicon}
-use Rattle.c_grammar.specs.Symbols.{Symbol, Tree, Rule}
+use Rattle.c_grammar.specs.Symbols.{Symbol, Tree, Rule, an_expression, a_pointer, an_inner, an_inside, arguments, initializers, a_length, forever, a_block, a_body, the_members, the_types, the_params, stop_params, parens, squares, braces}
 use Rattle.c_grammar.specs.Subset.{grammar}
 use Rattle.c_parser.specs.Answers.{most_open}
 use Rattle.c_parser.specs.Levels.{inner_at, reads_at, opening}
@@ -17,7 +17,7 @@ use Rattle.c_parser.specs.declared.fault.Fault.TheVariants as fault
 
 -- ---- one level deeper
 
-read_level : (d k : ℕ) (n : Symbol) → read lexicon grammar d k n ≡ read_with lexicon d (below (read lexicon grammar (d + 1)) k) (grammar n)
+pub read_level : (d k : ℕ) (n : Symbol) → read lexicon grammar d k n ≡ read_with lexicon d (below (read lexicon grammar (d + 1)) k) (grammar n)
 unfolding read below
 read_level d zero n = refl
 read_level d (suc k) n = refl
@@ -116,3 +116,52 @@ opens_faults d k ts (fault.TooDeep rest) f = at (ts) f
         none : (o : Option Piece) → picked o t ts ≡ TooDeep (pieces rest.now) → ⊥
         none (Some a) f = cc
         none None f = cc
+
+-- ---- of each symbol
+
+pub index_opens : (d : ℕ) (ts : List Piece) → reads_at d (squares an_expression) ts ≡ and_then (opening d 347 ts) (λ j. reads_at j (grammar an_expression) >>= λ x. (λ _. x) <$> reads_at j (token {A = Piece} 349 Some))
+index_opens d ts = enclosed_opens d 347 349 an_expression ts
+
+pub length_opens : (d : ℕ) (ts : List Piece) → reads_at d (squares a_length) ts ≡ and_then (opening d 347 ts) (λ j. reads_at j (grammar a_length) >>= λ x. (λ _. x) <$> reads_at j (token {A = Piece} 349 Some))
+length_opens d ts = enclosed_opens d 347 349 a_length ts
+
+pub pointer_opens : (d : ℕ) (ts : List Piece) → reads_at d (parens a_pointer) ts ≡ and_then (opening d 296 ts) (λ j. reads_at j (grammar a_pointer) >>= λ x. (λ _. x) <$> reads_at j (token {A = Piece} 297 Some))
+pointer_opens d ts = enclosed_opens d 296 297 a_pointer ts
+
+pub inner_opens : (d : ℕ) (ts : List Piece) → reads_at d (parens an_inner) ts ≡ and_then (opening d 296 ts) (λ j. reads_at j (grammar an_inner) >>= λ x. (λ _. x) <$> reads_at j (token {A = Piece} 297 Some))
+inner_opens d ts = enclosed_opens d 296 297 an_inner ts
+
+pub inside_opens : (d : ℕ) (ts : List Piece) → reads_at d (parens an_inside) ts ≡ and_then (opening d 296 ts) (λ j. reads_at j (grammar an_inside) >>= λ x. (λ _. x) <$> reads_at j (token {A = Piece} 297 Some))
+inside_opens d ts = enclosed_opens d 296 297 an_inside ts
+
+pub arguments_opens : (d : ℕ) (ts : List Piece) → reads_at d (parens arguments) ts ≡ and_then (opening d 296 ts) (λ j. reads_at j (grammar arguments) >>= λ x. (λ _. x) <$> reads_at j (token {A = Piece} 297 Some))
+arguments_opens d ts = enclosed_opens d 296 297 arguments ts
+
+pub test_opens : (d : ℕ) (ts : List Piece) → reads_at d (parens an_expression) ts ≡ and_then (opening d 296 ts) (λ j. reads_at j (grammar an_expression) >>= λ x. (λ _. x) <$> reads_at j (token {A = Piece} 297 Some))
+test_opens d ts = enclosed_opens d 296 297 an_expression ts
+
+pub forever_opens : (d : ℕ) (ts : List Piece) → reads_at d (parens forever) ts ≡ and_then (opening d 296 ts) (λ j. reads_at j (grammar forever) >>= λ x. (λ _. x) <$> reads_at j (token {A = Piece} 297 Some))
+forever_opens d ts = enclosed_opens d 296 297 forever ts
+
+pub types_opens : (d : ℕ) (ts : List Piece) → reads_at d (parens the_types) ts ≡ and_then (opening d 296 ts) (λ j. reads_at j (grammar the_types) >>= λ x. (λ _. x) <$> reads_at j (token {A = Piece} 297 Some))
+types_opens d ts = enclosed_opens d 296 297 the_types ts
+
+pub params_opens : (d : ℕ) (ts : List Piece) → reads_at d (parens the_params) ts ≡ and_then (opening d 296 ts) (λ j. reads_at j (grammar the_params) >>= λ x. (λ _. x) <$> reads_at j (token {A = Piece} 297 Some))
+params_opens d ts = enclosed_opens d 296 297 the_params ts
+
+pub stop_opens : (d : ℕ) (ts : List Piece) → reads_at d (parens stop_params) ts ≡ and_then (opening d 296 ts) (λ j. reads_at j (grammar stop_params) >>= λ x. (λ _. x) <$> reads_at j (token {A = Piece} 297 Some))
+stop_opens d ts = enclosed_opens d 296 297 stop_params ts
+
+pub inits_opens : (d : ℕ) (ts : List Piece) → reads_at d (braces initializers) ts ≡ and_then (opening d 379 ts) (λ j. reads_at j (grammar initializers) >>= λ x. (λ _. x) <$> reads_at j (token {A = Piece} 381 Some))
+inits_opens d ts = enclosed_opens d 379 381 initializers ts
+
+pub block_opens : (d : ℕ) (ts : List Piece) → reads_at d (braces a_block) ts ≡ and_then (opening d 379 ts) (λ j. reads_at j (grammar a_block) >>= λ x. (λ _. x) <$> reads_at j (token {A = Piece} 381 Some))
+block_opens d ts = enclosed_opens d 379 381 a_block ts
+
+pub body_opens : (d : ℕ) (ts : List Piece) → reads_at d (braces a_body) ts ≡ and_then (opening d 379 ts) (λ j. reads_at j (grammar a_body) >>= λ x. (λ _. x) <$> reads_at j (token {A = Piece} 381 Some))
+body_opens d ts = enclosed_opens d 379 381 a_body ts
+
+pub members_opens : (d : ℕ) (ts : List Piece) → reads_at d (braces the_members) ts ≡ and_then (opening d 379 ts) (λ j. reads_at j (grammar the_members) >>= λ x. (λ _. x) <$> reads_at j (token {A = Piece} 381 Some))
+members_opens d ts = enclosed_opens d 379 381 the_members ts
+
+pub ruleset openings = (index_opens, length_opens, pointer_opens, inner_opens, inside_opens, arguments_opens, test_opens, forever_opens, types_opens, params_opens, stop_opens, inits_opens, block_opens, body_opens, members_opens)

@@ -4,3 +4,5 @@ pub mod Levels
 pub mod Scanned
 pub mod Words
 pub mod Numbers
+pub mod Views
+pub mod Outcomes

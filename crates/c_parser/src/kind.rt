@@ -1,6 +1,9 @@
 //! The kinds of pieces, as the grammar numbers them. A byte is of the kind 256 more than itself.
 
-ghost use Rattle.std.specs.Prelude.{◌≡◌};
+ghost use Rattle.std.specs.Prelude.{◌≡◌, ◌<◌, ◌∷◌, []};
+ghost use Rattle.reading.specs.Row.{starts};
+ghost use Rattle.grammars.specs.Reader.{among};
+ghost use Rattle.c_parser.specs.Levels.{begins_with};
 ghost use Rattle.grammars.specs.Reader.{next};
 ghost use Rattle.c_grammar.specs.Pieces.{pieces};
 ghost use Rattle.c_grammar.specs.Kinds as kinds;
@@ -24,6 +27,16 @@ pub const ONE_BLANK: usize = 50;
 pub const INDENTATION: usize = 51;
 pub const OUTDENTATION: usize = 52;
 pub const OTHER: usize = 60;
+pub const BANG: usize = 289;
+pub const AMPERSAND: usize = 294;
+pub const OPEN_PAREN: usize = 296;
+pub const STAR: usize = 298;
+pub const COMMA: usize = 300;
+pub const MINUS: usize = 301;
+pub const DOT: usize = 302;
+pub const OPEN_SQUARE: usize = 347;
+pub const OPEN_BRACE: usize = 379;
+pub const TILDE: usize = 382;
 
 /// The blanks before a statement.
 #[tactic(auto, using(crate::proofs::Depths::line_blanks_is))]
@@ -73,4 +86,68 @@ pub fn kind(depth: u16, bytes: &[u8]) -> usize
             256 + usize::from(*first)
         }
     }
+}
+
+/// Whether the next piece is of this kind.
+pub fn is_next(depth: u16, wanted: usize, bytes: &[u8]) -> bool
+    ensures { result ≡ begins_with depth (wanted ∷ []) (pieces bytes.now) }
+{
+    kind(depth, bytes) == wanted
+}
+
+/// Whether a list goes on: the next piece is of this kind.
+#[tactic(auto, using(crate::proofs::Turned::starts_kind))]
+pub fn goes_on(depth: u16, wanted: usize, bytes: &[u8]) -> bool
+    requires { 0 < wanted }
+    ensures { result ≡ starts (among kinds.lexicon depth (wanted ∷ [])) (pieces bytes.now) }
+{
+    is_next(depth, wanted, bytes)
+}
+
+/// Whether an operand begins here that is no expression in parentheses.
+pub fn starts_operand(depth: u16, bytes: &[u8]) -> bool
+    ensures { result ≡ begins_with depth (21 ∷ 20 ∷ []) (pieces bytes.now) }
+{
+    let kind = kind(depth, bytes);
+    kind == NUMBER || kind == NAME
+}
+
+/// Whether an expression begins here.
+pub fn starts_expression(depth: u16, bytes: &[u8]) -> bool
+    ensures { result ≡ begins_with depth (21 ∷ 20 ∷ 296 ∷ []) (pieces bytes.now) }
+{
+    let kind = kind(depth, bytes);
+    kind == NUMBER || kind == NAME || kind == OPEN_PAREN
+}
+
+/// Whether a unary operator begins here.
+pub fn starts_unary(depth: u16, bytes: &[u8]) -> bool
+    ensures { result ≡ begins_with depth (301 ∷ 382 ∷ 289 ∷ []) (pieces bytes.now) }
+{
+    let kind = kind(depth, bytes);
+    kind == MINUS || kind == TILDE || kind == BANG
+}
+
+/// Whether a type begins here.
+pub fn starts_type(depth: u16, bytes: &[u8]) -> bool
+    ensures { result ≡ begins_with depth (22 ∷ 9 ∷ []) (pieces bytes.now) }
+{
+    let kind = kind(depth, bytes);
+    kind == SCALAR || kind == STRUCT
+}
+
+/// Whether what is behind a type begins here, where a pointer or a value that stays is declared.
+pub fn starts_star_or_const(depth: u16, bytes: &[u8]) -> bool
+    ensures { result ≡ begins_with depth (298 ∷ 10 ∷ []) (pieces bytes.now) }
+{
+    let kind = kind(depth, bytes);
+    kind == STAR || kind == CONST
+}
+
+/// Whether a function begins here that gives no pointer to a struct.
+pub fn starts_plain_function(depth: u16, bytes: &[u8]) -> bool
+    ensures { result ≡ begins_with depth (8 ∷ 22 ∷ []) (pieces bytes.now) }
+{
+    let kind = kind(depth, bytes);
+    kind == VOID || kind == SCALAR
 }

@@ -170,6 +170,14 @@ pub fn mark(_depth: u16, wanted: u8, bytes: &[u8]) -> Result<&[u8], Fault<'_>>
     }
 }
 
+/// Takes a comma and the blank behind it.
+pub fn comma(depth: u16, bytes: &[u8]) -> Result<&[u8], Fault<'_>>
+    ensures { Passes (piece.Blanks 1) result (reads_at depth symbols.comma (pieces bytes.now)) }
+{
+    let rest = mark(depth, b',', bytes)?;
+    blank(depth, rest)
+}
+
 /// Takes a bracket.
 #[tactic(auto, using(crate::proofs::Leaves::reads_close, crate::proofs::Leaves::reads_no_close))]
 pub fn close(_depth: u16, bracket: u8, bytes: &[u8]) -> Result<&[u8], Fault<'_>>

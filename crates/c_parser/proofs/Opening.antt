@@ -1,7 +1,7 @@
 -- A bracket that opens, where one more may be open, and what is read behind it.
 use Rattle.std.proofs.Common.{◌≡◌, ℕ, zero, suc, ◌+◌, ◌-◌, ◌≤◌, ◌<◌, true, List, [], ◌∷◌, refl, sym, ap, ◌∙◌, arith, Option, Some, None}
 use Rattle.std.specs.Option.{option_map}
-use Rattle.reading.specs.Reader.{Outcome, Done, Unexpected, TooDeep, Reader, ◌>>=◌, ◌<$>◌, accept, picked, and_then, give, below, barred, bar, nested, enclosed}
+use Rattle.reading.specs.Reader.{Outcome, Done, Unexpected, TooDeep, Reader, ◌>>=◌, ◌<$>◌, accept, picked, and_then, mapped, give, below, barred, bar, nested, enclosed}
 use Rattle.reading.proofs.Levels.{below-zero, below-suc}
 use Rattle.grammars.specs.Grammar.{of_kind, token}
 use Rattle.grammars.specs.Reader.{at_symbol, read_with, read}
@@ -165,3 +165,22 @@ pub members_opens : (d : ℕ) (ts : List Piece) → reads_at d (braces the_membe
 members_opens d ts = enclosed_opens d 379 381 the_members ts
 
 pub ruleset openings = (index_opens, length_opens, pointer_opens, inner_opens, inside_opens, arguments_opens, test_opens, forever_opens, types_opens, params_opens, stop_opens, inits_opens, block_opens, body_opens, members_opens)
+
+-- ---- faults within brackets
+
+module _ (d opens closes : ℕ) (n : Symbol) (ts : List Piece) where
+  pub inside_fault : (j : ℕ) (r : List Piece) (e : Fault) → opening d opens ts ≡ Done j r → Faults e (reads_at j (grammar n) r) → Faults e (enclosed_in d opens closes n (inner_at d) ts)
+  inside_fault j r fault.Memory h f = tt
+  inside_fault j r (fault.Unexpected q) h f = enclosed_opens d opens closes n ts ∙ ap (λ o. and_then o (behind closes n)) h ∙ ap (λ o. and_then o (λ x. (λ _. x) <$> reads_at j (token {A = Piece} closes Some))) f
+  inside_fault j r (fault.TooDeep q) h f = enclosed_opens d opens closes n ts ∙ ap (λ o. and_then o (behind closes n)) h ∙ ap (λ o. and_then o (λ x. (λ _. x) <$> reads_at j (token {A = Piece} closes Some))) f
+
+  pub close_fault : (j : ℕ) (r q : List Piece) (x : Tree n) (e : Fault) → opening d opens ts ≡ Done j r → reads_at j (grammar n) r ≡ Done x q → Faults e (reads_at j (token {A = Piece} closes Some) q) → Faults e (enclosed_in d opens closes n (inner_at d) ts)
+  close_fault j r q x fault.Memory h i f = tt
+  close_fault j r q x (fault.Unexpected s) h i f =
+      enclosed_opens d opens closes n ts ∙ ap (λ o. and_then o (behind closes n)) h ∙ ap (λ o. and_then o (λ y. (λ _. y) <$> reads_at j (token {A = Piece} closes Some))) i ∙ ap (mapped (λ _. x)) f
+  close_fault j r q x (fault.TooDeep s) h i f =
+      enclosed_opens d opens closes n ts ∙ ap (λ o. and_then o (behind closes n)) h ∙ ap (λ o. and_then o (λ y. (λ _. y) <$> reads_at j (token {A = Piece} closes Some))) i ∙ ap (mapped (λ _. x)) f
+
+  pub closed : (j : ℕ) (r q s : List Piece) (x : Tree n) (v : Piece) → opening d opens ts ≡ Done j r → reads_at j (grammar n) r ≡ Done x q → reads_at j (token {A = Piece} closes Some) q ≡ Done v s → enclosed_in d opens closes n (inner_at d) ts ≡ Done x s
+  closed j r q s x v h i f =
+      enclosed_opens d opens closes n ts ∙ ap (λ o. and_then o (behind closes n)) h ∙ ap (λ o. and_then o (λ y. (λ _. y) <$> reads_at j (token {A = Piece} closes Some))) i ∙ ap (mapped (λ _. x)) f

@@ -73,8 +73,14 @@ pub fn declared_scalar(scalar: CScalar, declared: Side<Held, Declared>) -> CStmt
     ensures { stmt_of result ≡ rules.declared_scalar scalar (scalar_declared_of declared) }
 {
     match declared {
-        Side::Left(((pointer, name), value)) => held_as(scalar_type(scalar, pointer), name, value),
-        Side::Right((name, init)) => object_node(name, CBase::Scalar(scalar), init),
+        Side::Left(held) => {
+            let ((pointer, name), value) = held;
+            held_as(scalar_type(scalar, pointer), name, value)
+        }
+        Side::Right(object) => {
+            let (name, init) = object;
+            object_node(name, CBase::Scalar(scalar), init)
+        }
     }
 }
 
@@ -83,10 +89,14 @@ pub fn declared_struct(tag: Word, declared: Side<HeldPointer, Declared>) -> CStm
     ensures { stmt_of result ≡ rules.declared_struct tag (struct_declared_of declared) }
 {
     match declared {
-        Side::Left(((constant, name), value)) => {
+        Side::Left(held) => {
+            let ((constant, name), value) = held;
             held_as(CType::Pointer(constant, CBase::Struct(tag)), name, value)
         }
-        Side::Right((name, init)) => object_node(name, CBase::Struct(tag), init),
+        Side::Right(object) => {
+            let (name, init) = object;
+            object_node(name, CBase::Struct(tag), init)
+        }
     }
 }
 
@@ -114,7 +124,8 @@ pub fn named_statement(
 {
     match behind {
         Side::Left(args) => Ok(call_statement(name, args)),
-        Side::Right((steps, value)) => {
+        Side::Right(assigned) => {
+            let (steps, value) = assigned;
             let place = named_place(alloc, name, steps)?;
             Ok(assign_node(place, value))
         }

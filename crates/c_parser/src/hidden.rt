@@ -161,16 +161,21 @@ fn scalar_item(scalar: CScalar, behind: ScalarBehind) -> Item
     ensures { item_of result ≡ rules.scalar_item scalar (scalar_behind_of behind) }
 {
     match behind {
-        Side::Left(((pointer, name), defined)) => {
+        Side::Left(found) => {
+            let ((pointer, name), defined) = found;
             let ty = scalar_type(scalar, pointer);
             Item::Function(function_with(true, ty, name, defined))
         }
-        Side::Right(((constant, name), init)) => Item::Object(CObject {
-            name,
-            constant,
-            base: CBase::Scalar(scalar),
-            init,
-        }),
+        Side::Right(found) => {
+            let ((constant, name), init) = found;
+            let base = CBase::Scalar(scalar);
+            Item::Object(CObject {
+                name,
+                constant,
+                base,
+                init,
+            })
+        }
     }
 }
 
@@ -259,16 +264,21 @@ fn struct_item(tag: Word, behind: StructBehind) -> Item
     ensures { item_of result ≡ rules.struct_item tag (struct_behind_of behind) }
 {
     match behind {
-        Side::Left(((constant, name), defined)) => {
+        Side::Left(found) => {
+            let ((constant, name), defined) = found;
             let ty = CType::Pointer(constant, CBase::Struct(tag));
             Item::Function(function_with(true, ty, name, defined))
         }
-        Side::Right(((constant, name), init)) => Item::Object(CObject {
-            name,
-            constant,
-            base: CBase::Struct(tag),
-            init,
-        }),
+        Side::Right(found) => {
+            let ((constant, name), init) = found;
+            let base = CBase::Struct(tag);
+            Item::Object(CObject {
+                name,
+                constant,
+                base,
+                init,
+            })
+        }
     }
 }
 

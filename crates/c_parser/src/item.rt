@@ -182,7 +182,8 @@ fn tagged(name: Word, behind: Side<Seq<CMember>, ((bool, Word), Defined)>) -> It
 {
     match behind {
         Side::Left(members) => Item::Struct(CStruct { name, members }),
-        Side::Right(((constant, function), defined)) => {
+        Side::Right(found) => {
+            let ((constant, function), defined) = found;
             let ty = CType::Pointer(constant, CBase::Struct(name));
             Item::Function(function_with(false, ty, function, defined))
         }

@@ -19,6 +19,8 @@ mod parts;
 mod scan;
 mod simple;
 mod stmts;
+#[cfg(test)]
+mod tests;
 mod types;
 mod unit;
 mod words;

@@ -241,7 +241,7 @@ fn items(alloc: Global, depth: u16, bytes: &[u8]) -> Result<(Seq<Item>, &[u8]), 
 
 // ---- the unit
 
-#[tactic(auto, using(crate::proofs::Added::map_pushed, reading::proofs::Rows::append_nil))]
+#[tactic(auto, using(crate::proofs::Added::added_struct, crate::proofs::Added::added_extern, crate::proofs::Added::added_object, crate::proofs::Added::added_function))]
 fn add(unit: &mut CUnit, item: Item) -> Result<(), Memory>
     ensures { OnOk result (view.unit_of unit.new ≡ added (view.unit_of unit.old) (item_of item ∷ [])) }
 {

@@ -41,13 +41,21 @@ fn header_end(depth: u16, bytes: &[u8]) -> Result<&[u8], Fault<'_>>
     mark(depth, b'\n', rest)
 }
 
+/// The name of a header.
+fn header_name(depth: u16, name: Fixed, bytes: &[u8]) -> Result<&[u8], Fault<'_>>
+    requires { words.fixed_kind name ≡ 20 }
+    ensures { Passes (piece.Word (words.fixed_text name)) result (reads_at depth (symbols.word (words.fixed_text name)) (pieces bytes.now)) }
+{
+    fixed(depth, name, bytes)
+}
+
 /// `<NAME.h>` and the end of the line.
 fn header(depth: u16, name: Fixed, bytes: &[u8]) -> Result<&[u8], Fault<'_>>
     requires { words.fixed_kind name ≡ 20 }
     ensures { Passes (piece.Byte 10) result (reads_at depth (after (symbols.mark 60) (after (symbols.word (words.fixed_text name)) (after (symbols.mark 46) (after (symbols.word (words.fixed_text fixed.H)) (after (symbols.mark 62) symbols.new_line))))) (pieces bytes.now)) }
 {
     let rest = mark(depth, b'<', bytes)?;
-    let rest = fixed(depth, name, rest)?;
+    let rest = header_name(depth, name, rest)?;
     header_end(depth, rest)
 }
 

@@ -129,8 +129,8 @@ reads_name_none d bytes e = accept_no_word d name_word name_of (pieces bytes) e 
 
 by_text : (w text : List ℕ) (a s : CScalar) (more : Option CScalar) (t : Bool) → same_word w text ≡ t → word_kind text ≡ scalar_word → (more ≡ Some s → word_kind w ≡ scalar_word)
     → (if t then Some a else more) ≡ Some s → word_kind w ≡ scalar_word
-by_text w text a s more true same k other e = ap word_kind (same_word_is w text same) ∙ k
-by_text w text a s more false same k other e = other e
+by_text w text a s more true same k others e = ap word_kind (same_word_is w text same) ∙ k
+by_text w text a s more false same k others e = others e
 
 scalar_kind : (w : List ℕ) (s : CScalar) → word_scalar w ≡ Some s → word_kind w ≡ scalar_word
 scalar_kind w s =

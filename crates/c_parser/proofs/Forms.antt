@@ -2,6 +2,7 @@
 use Rattle.std.proofs.Common.{◌≡◌, ℕ, zero, suc, Bool, true, false, cond, List, [], ◌∷◌, length, get_or, refl, sym, ap, ◌∙◌, arith, Option, Some, None}
 use Rattle.std.specs.Prelude.{nat_eq, ◌&&◌}
 use Rattle.std.specs.Prelude as lists
+use Rattle.std.proofs.lemmas.Bool.{ne_eqb}
 use Rattle.reading.specs.Reader.{Outcome, Done, mapped, and_then, ◌<$>◌}
 use Rattle.c_ast.specs.Syntax.{Expr, Init, One, MoreInits, Stmt, Cons}
 use Rattle.c_ast.specs.View as view
@@ -51,21 +52,21 @@ zero_number zero Plain = refl
 zero_number zero U = refl
 zero_number zero Ll = refl
 zero_number zero Ull = refl
-zero_number (suc v) Plain = refl
-zero_number (suc v) U = refl
-zero_number (suc v) Ll = refl
-zero_number (suc v) Ull = refl
+zero_number (suc v) Plain = sym (ap (λ b. b && is_zero_number 0 Plain) (ne_eqb (suc v) 0 (λ e. omega arith)))
+zero_number (suc v) U = sym (ap (λ b. b && is_zero_number 0 U) (ne_eqb (suc v) 0 (λ e. omega arith)))
+zero_number (suc v) Ll = sym (ap (λ b. b && is_zero_number 0 Ll) (ne_eqb (suc v) 0 (λ e. omega arith)))
+zero_number (suc v) Ull = sym (ap (λ b. b && is_zero_number 0 Ull) (ne_eqb (suc v) 0 (λ e. omega arith)))
 
-unary_not : (op : CUnary) (e : CExpr) → is_zero_expr (expr_of (expr.Unary op e)) ≡ false
+pub unary_not : (op : CUnary) (e : CExpr) → is_zero_expr (expr_of (expr.Unary op e)) ≡ false
 unary_not op e = ap is_zero_expr (unary_is op e)
 
-binary_not : (op : CBinary) (a b : CExpr) → is_zero_expr (expr_of (expr.Binary op a b)) ≡ false
+pub binary_not : (op : CBinary) (a b : CExpr) → is_zero_expr (expr_of (expr.Binary op a b)) ≡ false
 binary_not op a b = ap is_zero_expr (binary_is op a b)
 
-cast_not : (t : CType) (e : CExpr) → is_zero_expr (expr_of (expr.Cast t e)) ≡ false
+pub cast_not : (t : CType) (e : CExpr) → is_zero_expr (expr_of (expr.Cast t e)) ≡ false
 cast_not t e = ap is_zero_expr (cast_is t e)
 
-cond_not : (a b c : CExpr) → is_zero_expr (expr_of (expr.Cond a b c)) ≡ false
+pub cond_not : (a b c : CExpr) → is_zero_expr (expr_of (expr.Cond a b c)) ≡ false
 cond_not a b c = ap is_zero_expr (cond_is a b c)
 
 pub ruleset other_expressions = (unary_not, binary_not, cast_not, cond_not)

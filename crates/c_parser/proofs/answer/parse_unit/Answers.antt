@@ -9,7 +9,7 @@ returns-else-is_empty c =
     says_trailing c.args.bytes.now c.in-Ok.rest.now _ _ c.in-Ok.ensures (something_left c.in-Ok.rest.now _ c.is_empty.ensures c.if-is_empty.false) c.place.ensures
 
 pub returns-in-Err-Unexpected : goal.returns-in-Err-Unexpected
-returns-in-Err-Unexpected c = says_unexpected c.args.bytes.now c.in-Err-Unexpected.rest.now _ c.in-Err-Unexpected.ensures c.place-in-Err-Unexpected.ensures
+returns-in-Err-Unexpected c = says_unexpected c.args.bytes.now c.in-Err-Unexpected.rest.now _ (rw c.in-Err-Unexpected.field-0-is at c.in-Err-Unexpected.ensures) c.place-in-Err-Unexpected.ensures
 
 pub returns-in-Err-TooDeep : goal.returns-in-Err-TooDeep
-returns-in-Err-TooDeep c = says_too_deep c.args.bytes.now c.in-Err-TooDeep.rest.now _ c.in-Err-TooDeep.ensures c.place-in-Err-TooDeep.ensures
+returns-in-Err-TooDeep c = says_too_deep c.args.bytes.now c.in-Err-TooDeep.rest.now _ (rw c.in-Err-TooDeep.field-0-is at c.in-Err-TooDeep.ensures) c.place-in-Err-TooDeep.ensures

@@ -1,6 +1,7 @@
 -- From what the reader of units gives to what is answered of the bytes.
-use Rattle.std.proofs.Common.{◌≡◌, ℕ, ◌+◌, ◌-◌, ◌≤◌, List, [], ◌∷◌, ◌++◌, length, take, refl, sym, ap, ◌∙◌, arith, length-append, append_assoc, Some, None}
-use Rattle.std.specs.Prelude.{Result, Ok, Err}
+use Rattle.std.proofs.Common.{◌≡◌, ℕ, ◌+◌, ◌-◌, ◌≤◌, Bool, true, false, List, [], ◌∷◌, ◌++◌, length, take, refl, sym, ap, ◌∙◌, arith, length-append, append_assoc, Some, None}
+use Rattle.std.specs.Prelude.{◌==◌, Result, Ok, Err}
+use Rattle.std.proofs.lemmas.Bool.{eqb-true}
 use Rattle.std.proofs.Math.Seq.{take-append_seam}
 use Rattle.reading.specs.Reader.{Outcome, Done, Unexpected, TooDeep, below, ended}
 use Rattle.reading.specs.Exact.{Tree, UnexpectedToken, DeepToken, answer}
@@ -97,3 +98,12 @@ says_unexpected bytes rest at e is =
 pub says_too_deep : (bytes rest : List ℕ) (at : ℕ) → reads_at 0 unit_rule (pieces bytes) ≡ TooDeep (pieces rest) → at ≡ length bytes - length rest → Reads bytes (Err (fault.TooDeep at))
 says_too_deep bytes rest at e is =
     (number bytes rest, parsed (pieces bytes) ∙ ap (λ o. answer (pieces bytes) (ended o)) e, is ∙ place bytes rest (end_too_deep (pieces bytes) (reads_at 0 unit_rule (pieces bytes)) (pieces rest) (unit_ends (pieces bytes)) e))
+
+-- ---- whether bytes are left
+
+pub nothing_left : (rest : List ℕ) (b : Bool) → b ≡ (length rest == 0) → b ≡ true → rest ≡ []
+nothing_left [] b e t = refl
+nothing_left (x ∷ xs) b e t = let none : length (x ∷ xs) ≡ 0 = eqb-true (length (x ∷ xs)) 0 (sym e ∙ t) in absurd (omega (arith, none))
+
+pub something_left : (rest : List ℕ) (b : Bool) → b ≡ (length rest == 0) → b ≡ false → rest ≡ [] → ⊥
+something_left rest b e f none = let t : b ≡ true = e ∙ ap (λ (r : List ℕ). length r == 0) none in let no : ⊥ = cc in no

@@ -3,13 +3,14 @@
 ghost use Rattle.std.specs.Prelude.{◌≡◌, true};
 ghost use Rattle.c_ast.specs.View.{init_of};
 ghost use Rattle.grammars.specs.Grammar.{after, before, choice, map, sequence};
+ghost use Rattle.grammars.specs.Kinds.{first};
 ghost use Rattle.c_grammar.specs.Pieces.{pieces};
 ghost use Rattle.c_grammar.specs.Symbols as symbols;
 ghost use Rattle.c_grammar.specs.TypeRules as types;
 ghost use Rattle.c_grammar.specs.ExpressionRules.{initializer};
 ghost use Rattle.c_grammar.specs.UnitRules as rules;
 ghost use Rattle.c_parser.specs.Gives.{Gives};
-ghost use Rattle.c_parser.specs.Levels.{reads_at};
+ghost use Rattle.c_parser.specs.Levels.{begins_with, reads_at};
 ghost use Rattle.c_parser.specs.Views.{defined_or_value_of, item_of, pointed_of, scalar_behind_of, struct_behind_of, typed_of, valued_of};
 
 use crate::fault::Fault;
@@ -105,6 +106,14 @@ fn scalar_const(
     Ok((Side::Right(object), rest))
 }
 
+/// Whether the parameters of a function begin here.
+#[tactic(auto, unfolding(c_grammar::specs::UnitRules::defined))]
+fn starts_defined(depth: u16, bytes: &[u8]) -> bool
+    ensures { result ≡ begins_with depth (first rules.defined) (pieces bytes.now) }
+{
+    is_next(depth, OPEN_PAREN, bytes)
+}
+
 fn defined_or_value(
     alloc: Global,
     depth: u16,
@@ -112,7 +121,7 @@ fn defined_or_value(
 ) -> Result<(Side<Defined, CInit>, &[u8]), Fault<'_>>
     ensures { Gives defined_or_value_of result (reads_at depth (choice (map symbols.left rules.defined) (map symbols.right rules.first_value)) (pieces bytes.now)) }
 {
-    if is_next(depth, OPEN_PAREN, bytes) {
+    if starts_defined(depth, bytes) {
         let (defined, rest) = defined(alloc, depth, bytes)?;
         return Ok((Side::Left(defined), rest));
     }

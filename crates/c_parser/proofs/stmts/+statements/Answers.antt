@@ -13,6 +13,6 @@ statement_lines-loop-turn-preserved t c = turned_after stmt_of _ c.in_ok-next.ne
 
 pub statement_lines-returns-in_err-next : goal.statement_lines-returns-in_err-next
 statement_lines-returns-in_err-next t c =
-    let p = err_from_is_err_and c.from_residual-in_err-next.result c.from_residual-in_err-next.ensures.1 in
-    let e : c.from_residual-in_err-next.result ≡ Err c.in_err-next.field-0.0 = p.1 ∙ ap Err p.2 in
+    let p = err_from_is_err_and c.from_residual.result c.from_residual.ensures.1 in
+    let e : c.from_residual.result ≡ Err c.in_err-next.field-0.0 = p.1 ∙ ap Err p.2 in
     rw e (turned_fault _ c.loop-turn.invariant (λ z. omega arith) (search rules) c.in_err-next.ensures)

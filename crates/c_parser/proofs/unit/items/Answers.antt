@@ -11,6 +11,6 @@ loop-turn-preserved c = staged_after _ c.in_ok-next.next _ _ _ _ c.loop-turn.inv
 
 pub returns-in_err-next : goal.returns-in_err-next
 returns-in_err-next c =
-    let p = err_from_is_err_and c.from_residual-in_err-next.result c.from_residual-in_err-next.ensures.1 in
-    let e : c.from_residual-in_err-next.result ≡ Err c.in_err-next.field-0.0 = p.1 ∙ ap Err p.2 in
+    let p = err_from_is_err_and c.from_residual.result c.from_residual.ensures.1 in
+    let e : c.from_residual.result ≡ Err c.in_err-next.field-0.0 = p.1 ∙ ap Err p.2 in
     rw e (staged_fault _ _ c.loop-turn.invariant (λ z. omega arith) (search rules) c.in_err-next.ensures)

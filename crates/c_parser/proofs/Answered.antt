@@ -83,9 +83,11 @@ pub says_unit : (bytes rest : List ℕ) (u : CUnit) → reads_at 0 unit_rule (pi
 says_unit bytes rest u e none = parsed (pieces bytes) ∙ ap (λ o. answer (pieces bytes) (ended o)) (e ∙ ap (λ r. Done (unit_of u) (pieces r)) none)
 
 pub says_trailing : (bytes rest : List ℕ) (u : TranslationUnit) (at : ℕ) → reads_at 0 unit_rule (pieces bytes) ≡ Done u (pieces rest) → (rest ≡ [] → ⊥) → at ≡ length bytes - length rest → Reads bytes (Err (fault.Unexpected at))
-says_trailing bytes rest u at e some is =
-    (number bytes rest, parsed (pieces bytes) ∙ ap (λ o. answer (pieces bytes) (ended o)) e ∙ ap (answer (pieces bytes)) (trailing u (pieces rest) (none rest some)),
-    is ∙ place bytes rest (end_done (pieces bytes) (reads_at 0 unit_rule (pieces bytes)) u (pieces rest) (unit_ends (pieces bytes)) e))
+says_trailing bytes rest u at e some is = (
+  number bytes rest,
+  parsed (pieces bytes) ∙ ap (λ o. answer (pieces bytes) (ended o)) e ∙ ap (answer (pieces bytes)) (trailing u (pieces rest) (none rest some)),
+  is ∙ place bytes rest (end_done (pieces bytes) (reads_at 0 unit_rule (pieces bytes)) u (pieces rest) (unit_ends (pieces bytes)) e),
+)
   where
     none : (r : List ℕ) → (r ≡ [] → ⊥) → pieces r ≡ [] → ⊥
     none [] some e = some refl

@@ -88,8 +88,8 @@ staged_after {d} {wanted} {n} {s} found {rest} x after m t now h e is read tells
     let front : map item_of now ≡ map item_of found ++ item_of x ∷ [] = ap (map item_of) pushed ∙ map_pushed found x in
     record {
       same = ap (λ (xs : List units.Item). mapped (λ more. xs ++ more) (up m d t after)) front ∙ ap (λ k. mapped (λ more. (map item_of found ++ item_of x ∷ []) ++ more) (up m d k after)) next
-      ∙ moved (map item_of found) (item_of x) (up m d (stage 3 (rank (item_of x))) after)
-      ∙ sym (ap (mapped (λ more. map item_of found ++ more)) (ap (λ k. up k d s rest) e ∙ turn d m s rest (Done (item_of x) after) is read)) ∙ h.same;
+          ∙ moved (map item_of found) (item_of x) (up m d (stage 3 (rank (item_of x))) after)
+          ∙ sym (ap (mapped (λ more. map item_of found ++ more)) (ap (λ k. up k d s rest) e ∙ turn d m s rest (Done (item_of x) after) is read)) ∙ h.same;
     }
 
 -- ---- the end

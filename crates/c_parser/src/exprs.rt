@@ -17,8 +17,8 @@ ghost use Rattle.c_parser.specs.Views.{arms_of, binary_of, inner_of, inside_of, 
 
 use crate::fault::Fault;
 use crate::kind::{
-    AMPERSAND, DOT, MINUS, NAME, NUMBER, OPEN_SQUARE, STAR, TILDE, goes_on, is_next, starts_operand,
-    starts_type, starts_unary,
+    AMPERSAND, DOT, MINUS, NAME, NUMBER, OPEN_SQUARE, STAR, TILDE, goes_on, is_next,
+    starts_operand, starts_type, starts_unary,
 };
 use crate::leaf::{blank, close, mark, name, number, open};
 use crate::nodes::{
@@ -204,11 +204,7 @@ fn other_arm(alloc: Global, depth: u16, bytes: &[u8]) -> Result<(CExpr, &[u8]), 
 }
 
 #[cycle(exprs)]
-fn both_arms(
-    alloc: Global,
-    depth: u16,
-    bytes: &[u8],
-) -> Result<((CExpr, CExpr), &[u8]), Fault<'_>>
+fn both_arms(alloc: Global, depth: u16, bytes: &[u8]) -> Result<((CExpr, CExpr), &[u8]), Fault<'_>>
     ensures { Gives arms_of result (reads_at depth (sequence symbols.pair rules.expression (after symbols.blank (after (symbols.mark 58) (after symbols.blank rules.expression)))) (pieces bytes.now)) }
 {
     let (first, rest) = expression(alloc, depth, bytes)?;
@@ -218,11 +214,7 @@ fn both_arms(
 
 /// `? E : E`.
 #[cycle(exprs)]
-fn cond_tail(
-    alloc: Global,
-    depth: u16,
-    bytes: &[u8],
-) -> Result<((CExpr, CExpr), &[u8]), Fault<'_>>
+fn cond_tail(alloc: Global, depth: u16, bytes: &[u8]) -> Result<((CExpr, CExpr), &[u8]), Fault<'_>>
     ensures { Gives arms_of result (reads_at depth rules.cond_tail (pieces bytes.now)) }
 {
     let rest = mark(depth, b'?', bytes)?;
@@ -349,11 +341,7 @@ fn value_inside(alloc: Global, depth: u16, bytes: &[u8]) -> Result<(CExpr, &[u8]
 
 /// What stands in parentheses where an expression begins.
 #[cycle(exprs)]
-fn inner(
-    alloc: Global,
-    depth: u16,
-    bytes: &[u8],
-) -> Result<(Side<CExpr, CExpr>, &[u8]), Fault<'_>>
+fn inner(alloc: Global, depth: u16, bytes: &[u8]) -> Result<(Side<CExpr, CExpr>, &[u8]), Fault<'_>>
     ensures { Gives inner_of result (reads_at depth rules.inner_rule (pieces bytes.now)) }
 {
     if is_next(depth, STAR, bytes) {

@@ -117,11 +117,7 @@ fn params_in_parens(
 }
 
 #[tactic(auto, using(crate::proofs::Opening::openings))]
-fn body_in_braces(
-    alloc: Global,
-    depth: u16,
-    bytes: &[u8],
-) -> Result<(Seq<CStmt>, &[u8]), Fault<'_>>
+fn body_in_braces(alloc: Global, depth: u16, bytes: &[u8]) -> Result<(Seq<CStmt>, &[u8]), Fault<'_>>
     ensures { Gives stmts_of result (reads_at depth (symbols.braces symbols.a_body) (pieces bytes.now)) }
 {
     let (inside, rest) = open(depth, b'{', bytes)?;

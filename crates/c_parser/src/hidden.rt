@@ -65,11 +65,7 @@ fn constant_object(
 
 // ---- behind a scalar
 
-fn scalar_star(
-    alloc: Global,
-    depth: u16,
-    bytes: &[u8],
-) -> Result<(ScalarBehind, &[u8]), Fault<'_>>
+fn scalar_star(alloc: Global, depth: u16, bytes: &[u8]) -> Result<(ScalarBehind, &[u8]), Fault<'_>>
     ensures { Gives scalar_behind_of result (reads_at depth (rules.behind_star rules.some_pointer) (pieces bytes.now)) }
 {
     let (name, rest) = star_name(alloc, depth, bytes)?;
@@ -89,11 +85,7 @@ fn scalar_const_star(
     Ok((((Some(true), name), defined), rest))
 }
 
-fn scalar_const(
-    alloc: Global,
-    depth: u16,
-    bytes: &[u8],
-) -> Result<(ScalarBehind, &[u8]), Fault<'_>>
+fn scalar_const(alloc: Global, depth: u16, bytes: &[u8]) -> Result<(ScalarBehind, &[u8]), Fault<'_>>
     ensures { Gives scalar_behind_of result (reads_at depth (rules.behind_const rules.some_pointer) (pieces bytes.now)) }
 {
     let rest = fixed(depth, Fixed::Const, bytes)?;
@@ -138,11 +130,7 @@ fn named(name: Word, behind: Side<Defined, CInit>) -> ScalarBehind
     }
 }
 
-fn scalar_name(
-    alloc: Global,
-    depth: u16,
-    bytes: &[u8],
-) -> Result<(ScalarBehind, &[u8]), Fault<'_>>
+fn scalar_name(alloc: Global, depth: u16, bytes: &[u8]) -> Result<(ScalarBehind, &[u8]), Fault<'_>>
     ensures { Gives scalar_behind_of result (reads_at depth rules.behind_name (pieces bytes.now)) }
 {
     let (name, rest) = name(alloc, depth, bytes)?;
@@ -199,11 +187,7 @@ fn scalar_static(alloc: Global, depth: u16, bytes: &[u8]) -> Result<(Item, &[u8]
 
 // ---- behind a struct
 
-fn struct_star(
-    alloc: Global,
-    depth: u16,
-    bytes: &[u8],
-) -> Result<(StructBehind, &[u8]), Fault<'_>>
+fn struct_star(alloc: Global, depth: u16, bytes: &[u8]) -> Result<(StructBehind, &[u8]), Fault<'_>>
     ensures { Gives struct_behind_of result (reads_at depth (rules.behind_star rules.same_pointer) (pieces bytes.now)) }
 {
     let (name, rest) = star_name(alloc, depth, bytes)?;
@@ -223,11 +207,7 @@ fn struct_const_star(
     Ok((((true, name), defined), rest))
 }
 
-fn struct_const(
-    alloc: Global,
-    depth: u16,
-    bytes: &[u8],
-) -> Result<(StructBehind, &[u8]), Fault<'_>>
+fn struct_const(alloc: Global, depth: u16, bytes: &[u8]) -> Result<(StructBehind, &[u8]), Fault<'_>>
     ensures { Gives struct_behind_of result (reads_at depth (rules.behind_const rules.same_pointer) (pieces bytes.now)) }
 {
     let rest = fixed(depth, Fixed::Const, bytes)?;

@@ -52,11 +52,7 @@ fn more_arguments(
 }
 
 /// One or more, with a comma between each and the next.
-fn some_arguments(
-    alloc: Global,
-    depth: u16,
-    bytes: &[u8],
-) -> Result<(Seq<CExpr>, &[u8]), Fault<'_>>
+fn some_arguments(alloc: Global, depth: u16, bytes: &[u8]) -> Result<(Seq<CExpr>, &[u8]), Fault<'_>>
     ensures { Gives exprs_of result (reads_at depth (separated symbols.comma rules.expression) (pieces bytes.now)) }
 {
     let (first, rest) = expression(alloc, depth, bytes)?;
@@ -116,7 +112,11 @@ fn is_zero_init(init: &CInit) -> bool
 fn is_zero(inits: &[CInit]) -> bool
     ensures { result ≡ rules.is_zero (inits_of inits.now) }
 {
-    if inits.len() == 1 { is_zero_init(&inits[0]) } else { false }
+    if inits.len() == 1 {
+        is_zero_init(&inits[0])
+    } else {
+        false
+    }
 }
 
 /// `{0}`, or an initializer for each part.

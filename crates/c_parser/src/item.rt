@@ -117,11 +117,7 @@ fn more_members(
     Ok((members, rest))
 }
 
-fn some_members(
-    alloc: Global,
-    depth: u16,
-    bytes: &[u8],
-) -> Result<(Seq<CMember>, &[u8]), Fault<'_>>
+fn some_members(alloc: Global, depth: u16, bytes: &[u8]) -> Result<(Seq<CMember>, &[u8]), Fault<'_>>
     ensures { Gives itself result (reads_at depth (sequence (λ m more. m ∷ more) rules.member (repeat rules.member)) (pieces bytes.now)) }
 {
     let (first, rest) = member(alloc, depth, bytes)?;
@@ -268,11 +264,7 @@ fn types_in_parens(
     Ok((params, rest))
 }
 
-fn types_and_end(
-    alloc: Global,
-    depth: u16,
-    bytes: &[u8],
-) -> Result<(Seq<CType>, &[u8]), Fault<'_>>
+fn types_and_end(alloc: Global, depth: u16, bytes: &[u8]) -> Result<(Seq<CType>, &[u8]), Fault<'_>>
     ensures { Gives itself result (reads_at depth (before (symbols.parens symbols.the_types) (after symbols.semicolon symbols.new_line)) (pieces bytes.now)) }
 {
     let (params, rest) = types_in_parens(alloc, depth, bytes)?;

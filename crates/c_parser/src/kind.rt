@@ -12,30 +12,55 @@ use crate::scan::{blanks, word};
 use crate::words::word_kind;
 
 pub const IF: usize = 1;
+
 pub const FOR: usize = 3;
+
 pub const BREAK: usize = 4;
+
 pub const RETURN: usize = 5;
+
 pub const STATIC: usize = 6;
+
 pub const EXTERN: usize = 7;
+
 pub const VOID: usize = 8;
+
 pub const STRUCT: usize = 9;
+
 pub const CONST: usize = 10;
+
 pub const NAME: usize = 20;
+
 pub const NUMBER: usize = 21;
+
 pub const SCALAR: usize = 22;
+
 pub const ONE_BLANK: usize = 50;
+
 pub const INDENTATION: usize = 51;
+
 pub const OUTDENTATION: usize = 52;
+
 pub const OTHER: usize = 60;
+
 pub const BANG: usize = 289;
+
 pub const AMPERSAND: usize = 294;
+
 pub const OPEN_PAREN: usize = 296;
+
 pub const STAR: usize = 298;
+
 pub const COMMA: usize = 300;
+
 pub const MINUS: usize = 301;
+
 pub const DOT: usize = 302;
+
 pub const OPEN_SQUARE: usize = 347;
+
 pub const OPEN_BRACE: usize = 379;
+
 pub const TILDE: usize = 382;
 
 /// The blanks before a statement.
@@ -43,7 +68,11 @@ pub const TILDE: usize = 382;
 fn line_blanks(depth: u16) -> usize
     ensures { result ≡ kinds.line_blanks depth }
 {
-    if depth == 0 { 2 } else { 2 * usize::from(depth) }
+    if depth == 0 {
+        2
+    } else {
+        2 * usize::from(depth)
+    }
 }
 
 /// The blanks before the brace that closes a block.
@@ -51,7 +80,11 @@ fn line_blanks(depth: u16) -> usize
 fn closing_blanks(depth: u16) -> usize
     ensures { result ≡ kinds.closing_blanks depth }
 {
-    if depth <= 1 { 4 } else { 2 * usize::from(depth) - 2 }
+    if depth <= 1 {
+        4
+    } else {
+        2 * usize::from(depth) - 2
+    }
 }
 
 /// The kind of so many blanks.

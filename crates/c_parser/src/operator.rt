@@ -87,12 +87,7 @@ fn comparison(
 }
 
 /// `==` or `!=`.
-fn equality(
-    depth: u16,
-    sign: u8,
-    op: CBinary,
-    bytes: &[u8],
-) -> Result<(CBinary, &[u8]), Fault<'_>>
+fn equality(depth: u16, sign: u8, op: CBinary, bytes: &[u8]) -> Result<(CBinary, &[u8]), Fault<'_>>
     requires { is_mark sign ≡ true }
     ensures { Gives itself result (reads_at depth (after (symbols.mark sign) (rules.operator 61 op)) (pieces bytes.now)) }
 {

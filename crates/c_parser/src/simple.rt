@@ -48,11 +48,7 @@ fn call_or_steps(
     Ok((Side::Right(steps), rest))
 }
 
-fn value_by_name(
-    alloc: Global,
-    depth: u16,
-    bytes: &[u8],
-) -> Result<(ValueOrCall, &[u8]), Fault<'_>>
+fn value_by_name(alloc: Global, depth: u16, bytes: &[u8]) -> Result<(ValueOrCall, &[u8]), Fault<'_>>
     ensures { Gives value_or_call_of result (reads_at depth (sequence rules.named_value types.name rules.call_or_steps) (pieces bytes.now)) }
 {
     let (name, rest) = name(alloc, depth, bytes)?;
@@ -62,11 +58,7 @@ fn value_by_name(
 
 /// An expression or a call.
 #[tactic(auto, unfolding(c_grammar::specs::StatementRules::value_or_call))]
-fn value_or_call(
-    alloc: Global,
-    depth: u16,
-    bytes: &[u8],
-) -> Result<(ValueOrCall, &[u8]), Fault<'_>>
+fn value_or_call(alloc: Global, depth: u16, bytes: &[u8]) -> Result<(ValueOrCall, &[u8]), Fault<'_>>
     ensures { Gives value_or_call_of result (reads_at depth rules.value_or_call (pieces bytes.now)) }
 {
     if is_next(depth, NUMBER, bytes) {
@@ -187,11 +179,7 @@ fn behind_struct(
     Ok((Side::Right(object), rest))
 }
 
-fn scalar_declaration(
-    alloc: Global,
-    depth: u16,
-    bytes: &[u8],
-) -> Result<(CStmt, &[u8]), Fault<'_>>
+fn scalar_declaration(alloc: Global, depth: u16, bytes: &[u8]) -> Result<(CStmt, &[u8]), Fault<'_>>
     ensures { Gives stmt_of result (reads_at depth (sequence rules.declared_scalar types.scalar (after symbols.blank rules.behind_scalar)) (pieces bytes.now)) }
 {
     let (scalar, rest) = scalar(depth, bytes)?;
@@ -200,11 +188,7 @@ fn scalar_declaration(
     Ok((declared_scalar(scalar, declared), rest))
 }
 
-fn struct_declaration(
-    alloc: Global,
-    depth: u16,
-    bytes: &[u8],
-) -> Result<(CStmt, &[u8]), Fault<'_>>
+fn struct_declaration(alloc: Global, depth: u16, bytes: &[u8]) -> Result<(CStmt, &[u8]), Fault<'_>>
     ensures { Gives stmt_of result (reads_at depth (sequence rules.declared_struct types.tag (after symbols.blank rules.behind_struct)) (pieces bytes.now)) }
 {
     let (tag, rest) = tag(alloc, depth, bytes)?;

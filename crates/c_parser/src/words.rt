@@ -63,8 +63,17 @@ fn is_early_keyword(word: &[u8]) -> bool
     ensures { result ≡ list_any (same_word word.now) words.early_keywords }
 {
     is_among!(
-        word, b"auto", b"break", b"case", b"char", b"const", b"continue", b"default", b"do",
-        b"double", b"else",
+        word,
+        b"auto",
+        b"break",
+        b"case",
+        b"char",
+        b"const",
+        b"continue",
+        b"default",
+        b"do",
+        b"double",
+        b"else",
     )
 }
 
@@ -72,7 +81,16 @@ fn is_middle_keyword(word: &[u8]) -> bool
     ensures { result ≡ list_any (same_word word.now) words.middle_keywords }
 {
     is_among!(
-        word, b"enum", b"extern", b"float", b"for", b"goto", b"if", b"inline", b"int", b"long",
+        word,
+        b"enum",
+        b"extern",
+        b"float",
+        b"for",
+        b"goto",
+        b"if",
+        b"inline",
+        b"int",
+        b"long",
         b"register",
     )
 }
@@ -81,8 +99,16 @@ fn is_late_keyword(word: &[u8]) -> bool
     ensures { result ≡ list_any (same_word word.now) words.late_keywords }
 {
     is_among!(
-        word, b"restrict", b"return", b"short", b"signed", b"sizeof", b"static", b"struct",
-        b"switch", b"typedef",
+        word,
+        b"restrict",
+        b"return",
+        b"short",
+        b"signed",
+        b"sizeof",
+        b"static",
+        b"struct",
+        b"switch",
+        b"typedef",
     )
 }
 
@@ -90,7 +116,14 @@ fn is_last_keyword(word: &[u8]) -> bool
     ensures { result ≡ list_any (same_word word.now) words.last_keywords }
 {
     is_among!(
-        word, b"union", b"unsigned", b"void", b"volatile", b"while", b"_Bool", b"_Complex",
+        word,
+        b"union",
+        b"unsigned",
+        b"void",
+        b"volatile",
+        b"while",
+        b"_Bool",
+        b"_Complex",
         b"_Imaginary",
     )
 }
@@ -99,8 +132,18 @@ fn is_defined_name(word: &[u8]) -> bool
     ensures { result ≡ list_any (same_word word.now) text.defined_names }
 {
     is_among!(
-        word, b"bool", b"true", b"false", b"uint8_t", b"uint16_t", b"uint32_t", b"uint64_t",
-        b"int8_t", b"int16_t", b"int32_t", b"int64_t",
+        word,
+        b"bool",
+        b"true",
+        b"false",
+        b"uint8_t",
+        b"uint16_t",
+        b"uint32_t",
+        b"uint64_t",
+        b"int8_t",
+        b"int16_t",
+        b"int32_t",
+        b"int64_t",
     )
 }
 
@@ -242,7 +285,11 @@ pub fn word_kind(word: &[u8]) -> usize
     ensures { result ≡ kinds.word_kind word.now }
 {
     if !begins_as_identifier(word) {
-        return if number_of(word).is_some() { NUMBER } else { OTHER };
+        return if number_of(word).is_some() {
+            NUMBER
+        } else {
+            OTHER
+        };
     }
     if is_name(word) {
         NAME

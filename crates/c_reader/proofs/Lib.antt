@@ -1,0 +1,6 @@
+pub mod Cuts
+pub mod Begun
+pub mod OpenedLevels
+pub mod Depths
+pub mod Answered
+pub mod Verdicts

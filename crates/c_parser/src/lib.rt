@@ -1,0 +1,7 @@
+//! Reads the bytes of a C text as a unit of the subset: recursive descent over the bytes, each function as its reader in the
+//! grammar.
+#![tactic(auto)]
+
+mod answer;
+
+pub use answer::{UnitFault, parse_unit};

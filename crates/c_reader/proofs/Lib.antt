@@ -4,3 +4,4 @@ pub mod OpenedLevels
 pub mod Depths
 pub mod Answered
 pub mod Verdicts
+pub mod Results

@@ -5,7 +5,7 @@ use Rattle.reading.specs.Row.{Entry, Row, no_signs, tokens, Shallow}
 use Rattle.reading.specs.Exact.{Tree, UnexpectedToken, DeepToken, Begins, TooDeepAt}
 use Rattle.reading.proofs.Rows.{tokens_append}
 use Rattle.c_ast.specs.Syntax.{TranslationUnit}
-use Rattle.c_text.specs.ReadsBack.{open_brackets, Spells, IsShallow}
+use Rattle.c_text.specs.ReadsBack.{open_after, open_brackets, Spells, IsShallow}
 use Rattle.c_text.specs.Faults.{SyntaxAt, ShallowBefore, DeepAt}
 use Rattle.c_grammar.specs.Pieces.{Piece, piece_text, joined, pieces}
 use Rattle.c_grammar.specs.Kinds.{is_whole}
@@ -96,24 +96,28 @@ behind_deep ts front rest p at cut begins whole f = which (further f.first f.res
         longer [] (sym same ∙ sym (append-nil (front ++ p ∷ [])))
     which (inr (w, e, h)) = longer w e
 
+-- the bracket behind a front of the bytes, with which one more than 300 are open
+deep_bytes : (bytes front p rest : List ℕ) (x c at : ℕ) → at ≡ length front → front ++ (p ++ rest) ≡ bytes → p ≡ x ∷ [] → Low 300 0 front c → open_after c x ≡ 301 → DeepAt bytes at
+deep_bytes bytes front p rest x c at place text one low over =
+    let further : front ++ x ∷ rest ≡ bytes = ap (λ t. front ++ (t ++ rest)) (sym one) ∙ text in
+    let opens : open_brackets 0 (take (length front + 1) (front ++ x ∷ rest)) ≡ 301 = one_further 300 0 c front x rest low ∙ over in
+    record {
+      shallow_before = λ n few. subst (λ t. open_brackets 0 (take n t) ≤ 300) text (low_front 300 0 c front (p ++ rest) low n (subst (λ q. n ≤ q) place few));
+      opens = subst (λ q. open_brackets 0 (take (q + 1) bytes) ≡ 301) (sym place) (subst (λ t. open_brackets 0 (take (length front + 1) t) ≡ 301) further opens);
+    }
+
+row_then : (row : Row Piece) (m : Entry Piece) (tail : Row Piece) → tokens (row ++ m ∷ tail) ≡ ((tokens row ++ m.token ∷ []) ++ tokens tail) ++ []
+row_then row m tail = tokens_append row (m ∷ tail) ∙ sym (append_assoc (tokens row) (m.token ∷ []) (tokens tail)) ∙ sym (append-nil ((tokens row ++ m.token ∷ []) ++ tokens tail))
+
 pub deep_answered : (bytes : List ℕ) (k : ℕ) → parse 300 (pieces bytes) ≡ DeepToken k → DeepAt bytes (place_of bytes k) × ((place : ℕ) → SyntaxAt bytes place → place_of bytes k < place)
 deep_answered bytes k e =
     let (row, m, tail, rest, u, cut, is, spelled, shallow, high, fits) = (exactly 300).too_deep (pieces bytes) k e in
-    let front = joined (tokens row) in
-    let place : place_of bytes k ≡ length front = place_is bytes (tokens row) (m.token ∷ rest) k cut is in
-    let text : front ++ (piece_text m.token ++ joined rest) ≡ bytes = bytes_are bytes (tokens row) (m.token ∷ rest) cut in
+    let place : place_of bytes k ≡ length (joined (tokens row)) = place_is bytes (tokens row) (m.token ∷ rest) k cut is in
     let (c, before, (b, enters, after)) = leveled_split 0 0 row (m ∷ tail) (rows_are_leveled u (row ++ m ∷ tail) spelled) in
-    let low : Low 300 0 front c = row_low 300 0 c row before shallow (omega arith) in
-    let (x, one, over) = one_too_many 300 c b m enters (low_end 300 0 c front low) high in
+    let low : Low 300 0 (joined (tokens row)) c = row_low 300 0 c row before shallow (omega arith) in
+    let (x, one, over) = one_too_many 300 c b m enters (low_end 300 0 c (joined (tokens row)) low) high in
     let whole : AllWhole (m.token ∷ rest) = whole_back (tokens row) (m.token ∷ rest) (subst AllWhole cut (pieces_whole bytes)) in
-    let begins : Begins Text (tokens row ++ m.token ∷ []) = begins_front (tokens row ++ m.token ∷ []) (tokens tail) ([], u, (row ++ m ∷ tail, spelled, all row m tail)) in
-    let opens : open_brackets 0 (take (length front + 1) (front ++ x ∷ joined rest)) ≡ 301 = one_further 300 0 c front x (joined rest) low ∙ over in (
-      record {
-        shallow_before = λ n few. subst (λ t. open_brackets 0 (take n t) ≤ 300) text (low_front 300 0 c front (piece_text m.token ++ joined rest) low n (subst (λ p. n ≤ p) place few));
-        opens = ap (λ p. open_brackets 0 (take (p + 1) bytes)) place ∙ ap (λ t. open_brackets 0 (take (length front + 1) t)) (sym text ∙ ap (λ t. front ++ (t ++ joined rest)) one) ∙ opens;
-      },
+    let begins : Begins Text (tokens row ++ m.token ∷ []) = begins_front (tokens row ++ m.token ∷ []) (tokens tail) ([], u, (row ++ m ∷ tail, spelled, row_then row m tail)) in (
+      deep_bytes bytes (joined (tokens row)) (piece_text m.token) (joined rest) x c (place_of bytes k) place (bytes_are bytes (tokens row) (m.token ∷ rest) cut) one low over,
       λ at syntax. subst (λ p. p < at) (sym place) (behind_deep (pieces bytes) (tokens row) rest m.token at cut begins whole.0 (syntax_pieces bytes at syntax)),
     )
-  where
-    all : (row : Row Piece) (m : Entry Piece) (tail : Row Piece) → tokens (row ++ m ∷ tail) ≡ ((tokens row ++ m.token ∷ []) ++ tokens tail) ++ []
-    all row m tail = tokens_append row (m ∷ tail) ∙ sym (append_assoc (tokens row) (m.token ∷ []) (tokens tail)) ∙ sym (append-nil ((tokens row ++ m.token ∷ []) ++ tokens tail))

@@ -65,8 +65,14 @@ fn told(why: UnitFault) -> ReadFault
     ensures { result ≡ told_of why }
 {
     match why {
-        UnitFault::Unexpected(at) => ReadFault::At(CFault { at, why: CWhy::Syntax }),
-        UnitFault::TooDeep(at) => ReadFault::At(CFault { at, why: CWhy::TooDeep }),
+        UnitFault::Unexpected(at) => ReadFault::At(CFault {
+            at,
+            why: CWhy::Syntax,
+        }),
+        UnitFault::TooDeep(at) => ReadFault::At(CFault {
+            at,
+            why: CWhy::TooDeep,
+        }),
         UnitFault::Memory => ReadFault::Memory,
     }
 }

@@ -18,8 +18,7 @@ fn answer(alloc: Global, text: &[u8]) -> Result<Option<CFault>, Fail> {
 
 /// What is answered of these lines behind the three with which each text begins, 75 bytes.
 fn answer_behind(alloc: Global, lines: &str) -> Result<Option<CFault>, Fail> {
-    let text = format!(
-        in alloc;
+    let text = format!(in alloc;
         "#include <stdint.h>\n#include <stdbool.h>\nextern void ivory_stop(uint32_t);\n{lines}"
     )?;
     answer(alloc, text.as_bytes())
@@ -29,11 +28,19 @@ fn answer_behind(alloc: Global, lines: &str) -> Result<Option<CFault>, Fail> {
 fn tells_each_fault(rt: HostRuntime) -> Result<(), Fail> {
     let rows: [(&str, u32, CWhy); 6] = [
         ("static  uint8_t *iv_f(void) {\n", 81, CWhy::Syntax),
-        ("void iv_main(void) {\n  for(;;) {\n  }\n}\n", 101, CWhy::Syntax),
+        (
+            "void iv_main(void) {\n  for(;;) {\n  }\n}\n",
+            101,
+            CWhy::Syntax,
+        ),
         ("void iv_a(void) {\n", 93, CWhy::Syntax),
         ("void iv_a(void) {\n  iv_b();\n}\n", 95, CWhy::BadName),
         ("void iv_a(void) {\n  break;\n}\n", 95, CWhy::BadType),
-        ("uint8_t iv_a(void) {\n  iv_b();\n  return;\n}\n", 98, CWhy::BadName),
+        (
+            "uint8_t iv_a(void) {\n  iv_b();\n  return;\n}\n",
+            98,
+            CWhy::BadName,
+        ),
     ];
     for (lines, at, why) in rows {
         let fault = answer_behind(rt.alloc(), lines)?;
@@ -50,7 +57,13 @@ fn tells_the_bracket_too_many(rt: HostRuntime) -> Result<(), Fail> {
     }
     let fault = answer_behind(rt.alloc(), &lines)?;
     let at = 697;
-    assert_eq!(rt; fault, Some(CFault { at, why: CWhy::TooDeep }));
+    assert_eq!(rt;
+        fault,
+        Some(CFault {
+            at,
+            why: CWhy::TooDeep
+        })
+    );
     Ok(())
 }
 

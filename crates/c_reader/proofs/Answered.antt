@@ -36,7 +36,7 @@ unit_answered bytes u e =
 place_is : (bytes : List ℕ) (first rest : List Piece) (k : ℕ) → pieces bytes ≡ first ++ rest → k ≡ length first → place_of bytes k ≡ length (joined first)
 place_is bytes first rest k cut is = ap (λ ps. length (joined (take k ps))) cut ∙ ap (λ ps. length (joined ps)) (take_at first rest k (sym is))
 
-bytes_are : (bytes : List ℕ) (first rest : List Piece) → pieces bytes ≡ first ++ rest → joined first ++ joined rest ≡ bytes
+pub bytes_are : (bytes : List ℕ) (first rest : List Piece) → pieces bytes ≡ first ++ rest → joined first ++ joined rest ≡ bytes
 bytes_are bytes first rest cut = sym (pieces_appended first rest) ∙ ap joined (sym cut) ∙ pieces_joined bytes
 
 abbrev NoneTooDeep : List Piece → Type 0

@@ -5,3 +5,5 @@ pub mod Depths
 pub mod Answered
 pub mod Verdicts
 pub mod Results
+pub mod Places
+pub mod UnitPlaces

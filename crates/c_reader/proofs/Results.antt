@@ -23,9 +23,9 @@ use Rattle.c_parser.specs.declared.answer.UnitFault.TheVariants as parser
 use Rattle.c_parser.specs.Answers.{Says}
 use Rattle.c_reader.specs.declared.read.ReadFault.{ReadFault}
 use Rattle.c_reader.specs.declared.read.ReadFault.TheVariants as fault
-use Rattle.c_reader.specs.Answers.{OnlyUnit, Told, ToldOfNone, Read, IsSpelled, told_of}
+use Rattle.c_reader.specs.Answers.{OnlyUnit, Told, ToldOfNone, ToldWithin, Read, IsSpelled, told_of}
 use Rattle.c_reader.proofs.Answered.{unit_answered, syntax_answered, deep_answered}
-use Rattle.c_reader.proofs.Verdicts.{broken_answered, not_unit_and_fault, one_unit}
+use Rattle.c_reader.proofs.Verdicts.{broken_answered, not_unit_and_fault, one_unit, places_within}
 
 pub unit_read : (target : Target) (bytes : List ℕ) (r : Result CUnit ReadFault) → Read target bytes r → IfOk r (λ u. ReadsBack (unit_of u) bytes target)
 unit_read target bytes (Ok u) back = back
@@ -43,6 +43,11 @@ pub none_read : (target : Target) (bytes : List ℕ) (r : Result CUnit ReadFault
 none_read target bytes (Ok u) back = tt
 none_read target bytes (Err (fault.At f)) told = λ v back. not_unit_and_fault target bytes v f back told
 none_read target bytes (Err fault.Memory) told = tt
+
+pub place_read : (target : Target) (bytes : List ℕ) (r : Result CUnit ReadFault) → Read target bytes r → IfErr r (λ why. ToldWithin bytes why)
+place_read target bytes (Ok u) back = tt
+place_read target bytes (Err (fault.At f)) told = places_within target bytes f told
+place_read target bytes (Err fault.Memory) told = tt
 
 -- ---- what the search through the rules answers
 

@@ -1,6 +1,7 @@
 -- Bytes are the text of one right unit or have one fault, and never both.
-use Rattle.std.proofs.Common.{◌≡◌, ℕ, ◌+◌, ◌<◌, ◌≤◌, ◌⊎◌, inl, inr, List, take, refl, sym, ap, subst, arith}
-use Rattle.std.proofs.lemmas.Bool.{cases_order}
+use Rattle.std.proofs.Common.{◌≡◌, ℕ, ◌+◌, ◌<◌, ◌≤◌, ◌⊎◌, inl, inr, List, length, take, refl, sym, ap, ◌∙◌, subst, arith}
+use Rattle.std.proofs.lemmas.List.{length-append, take_all}
+use Rattle.std.proofs.lemmas.Bool.{cases_order, cases_lt}
 use Rattle.reading.specs.Exact.{Answer, Tree, UnexpectedToken, DeepToken}
 use Rattle.c_ast.specs.declared.types.Target.{Target}
 use Rattle.c_ast.specs.Syntax.{TranslationUnit}
@@ -8,18 +9,20 @@ use Rattle.c_text.specs.declared.fault.CFault.{CFault}
 use Rattle.c_text.specs.declared.fault.CWhy.{CWhy}
 use Rattle.c_text.specs.declared.fault.CWhy.TheVariants.{Syntax, TooDeep, BadName, BadType}
 use Rattle.c_text.specs.Rules.{Rule, NameIsKnown, TagIsKnown, MemberIsKnown, NameIsNew, TagIsNew, MemberIsNew, NameIsOfFile, CalledIsEarlier, OperandsAreScalars, CastIsAllowed, StarHasPointer, DotHasStruct, IndexHasArray, AddressIsOfObject, ReadHasValue, NameIsPlace, AssignedIsScalar, GivenIsWanted, IndexIsScalar, TestIsScalar, ArgumentsAreCounted, ResultIsWanted, ReturnMatches, BreakIsInLoop, InitializersFit, BracesMatch, FileScopeHasNoNames, LengthIsAllowed, MemberEndsInTime, ConstantHasType, why_of}
+use Rattle.c_text.specs.Spelling.{unit_text}
 use Rattle.c_text.specs.UnitRules.{unit_demands}
 use Rattle.c_text.specs.Right.{Right}
 use Rattle.c_text.specs.ReadsBack.{open_brackets, Spells, IsShallow, ReadsBack}
 use Rattle.c_text.specs.FirstFault.{IsFirst, HasFirst}
 use Rattle.c_text.specs.Faults.{SyntaxAt, ShallowBefore, DeepAt, BreaksRule, FaultAt, HasFault}
 use Rattle.c_text.proofs.FirstFault.{right_or_at_fault, not_both, one_first}
-use Rattle.c_grammar.specs.Pieces.{pieces}
+use Rattle.c_grammar.specs.Pieces.{joined, pieces}
 use Rattle.c_grammar.specs.Subset.{parse}
 use Rattle.c_grammar.proofs.Texts.{texts_apart}
-use Rattle.c_reader.specs.Verdicts.{SomeUnit, SomeFault, UnitOrFault, NotUnitAndFault, OneUnit, OneFault}
-use Rattle.c_reader.proofs.Begun.{spelled_is_expected, one_syntax}
-use Rattle.c_reader.proofs.Answered.{place_of, unit_answered, syntax_answered, deep_answered}
+use Rattle.c_reader.specs.Verdicts.{SomeUnit, SomeFault, UnitOrFault, NotUnitAndFault, OneUnit, OneFault, PlacesAreWithin}
+use Rattle.c_reader.proofs.Begun.{syntax_pieces, spelled_is_expected, one_syntax}
+use Rattle.c_reader.proofs.UnitPlaces.{asked_within}
+use Rattle.c_reader.proofs.Answered.{place_of, bytes_are, unit_answered, syntax_answered, deep_answered}
 
 -- ---- a rule that is broken
 
@@ -155,3 +158,37 @@ one_at target bytes a b BadType BadType f g = one_broken target bytes (fault a B
 
 pub one_fault : OneFault
 one_fault target bytes f g is other = one_at target bytes f.at g.at f.why g.why is other
+
+-- ---- where it is
+
+syntax_within : (bytes : List ℕ) (at : ℕ) → SyntaxAt bytes at → at ≤ length bytes
+syntax_within bytes at syntax =
+    let f = syntax_pieces bytes at syntax in
+    let size : length bytes ≡ length (joined f.first) + length (joined f.rest) = ap length (sym (bytes_are bytes f.first f.rest f.cut)) ∙ length-append (joined f.first) (joined f.rest) in
+    let place : at ≡ length (joined f.first) = f.place in
+    omega (arith, size, place)
+
+deep_within : (bytes : List ℕ) (at : ℕ) → DeepAt bytes at → (length bytes < at) ⊎ (at ≤ length bytes) → at ≤ length bytes
+deep_within bytes at deep (inl past) =
+    let one = take_all at bytes (omega (arith, past)) in
+    let two = take_all (at + 1) bytes (omega (arith, past)) in
+    let same : open_brackets 0 (take (at + 1) bytes) ≡ open_brackets 0 (take at bytes) = ap (open_brackets 0) (two ∙ sym one) in
+    let low : open_brackets 0 (take at bytes) ≤ 300 = deep.shallow_before at (omega arith) in
+    absurd (shallow_not_deep bytes at (subst (λ k. k ≤ 300) (sym same) low) deep)
+deep_within bytes at deep (inr there) = there
+
+broken_within : (target : Target) (bytes : List ℕ) (f : CFault) → BreaksRule target bytes f → f.at ≤ length bytes
+broken_within target bytes f b =
+    let place : f.at ≡ b.first.broken.at = ap (λ g. g.at) b.first.is in
+    let low = asked_within target b.unit b.first.broken b.first.asked in
+    let text : length bytes ≡ length (unit_text b.unit) = ap length b.spelled.is in
+    omega (arith, place, low, text)
+
+within_at : (target : Target) (bytes : List ℕ) (at : ℕ) (why : CWhy) → FaultAt target bytes at why → at ≤ length bytes
+within_at target bytes at Syntax f = syntax_within bytes at f.0
+within_at target bytes at TooDeep f = deep_within bytes at f.0 (cases_lt (length bytes) at)
+within_at target bytes at BadName f = broken_within target bytes (fault at BadName) f
+within_at target bytes at BadType f = broken_within target bytes (fault at BadType) f
+
+pub places_within : PlacesAreWithin
+places_within target bytes f is = within_at target bytes f.at f.why is

@@ -1,5 +1,5 @@
 -- What the reading of bytes answers: the only unit that reads back from them, or their fault; nothing, where memory ran out.
-use Rattle.std.specs.Prelude.{◌≡◌, ℕ, List, Result, Ok, Err}
+use Rattle.std.specs.Prelude.{◌≡◌, ◌≤◌, ℕ, List, length, Result, Ok, Err}
 use Rattle.c_ast.specs.declared.types.Target.{Target}
 use Rattle.c_ast.specs.declared.unit.CUnit.{CUnit}
 use Rattle.c_ast.specs.Syntax.{TranslationUnit}
@@ -28,6 +28,11 @@ Told target bytes fault.Memory = Unit {0}
 abbrev pub ToldOfNone : Target → List ℕ → ReadFault → Type 0
 ToldOfNone target bytes (fault.At f) = (v : TranslationUnit) → ReadsBack v bytes target → ⊥
 ToldOfNone target bytes fault.Memory = Unit {0}
+
+-- at a byte of them, or where they end
+abbrev pub ToldWithin : List ℕ → ReadFault → Type 0
+ToldWithin bytes (fault.At f) = f.at ≤ length bytes
+ToldWithin bytes fault.Memory = Unit {0}
 
 -- ---- inside
 

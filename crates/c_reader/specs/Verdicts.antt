@@ -1,5 +1,5 @@
 -- What bytes are on a target: the text of one unit whose names and types are right, or at one fault.
-use Rattle.std.specs.Prelude.{◌≡◌, ◌⊎◌, ℕ, List}
+use Rattle.std.specs.Prelude.{◌≡◌, ◌⊎◌, ◌≤◌, ℕ, List, length}
 use Rattle.c_ast.specs.declared.types.Target.{Target}
 use Rattle.c_ast.specs.Syntax.{TranslationUnit}
 use Rattle.c_text.specs.declared.fault.CFault.{CFault}
@@ -27,3 +27,7 @@ OneUnit = (target : Target) (bytes : List ℕ) (u v : TranslationUnit) → Reads
 
 abbrev pub OneFault : Type 0
 OneFault = (target : Target) (bytes : List ℕ) (f g : CFault) → HasFault target bytes f → HasFault target bytes g → f ≡ g
+
+-- a fault is at a byte, or where the bytes end
+abbrev pub PlacesAreWithin : Type 0
+PlacesAreWithin = (target : Target) (bytes : List ℕ) (f : CFault) → HasFault target bytes f → f.at ≤ length bytes

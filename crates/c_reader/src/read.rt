@@ -3,7 +3,7 @@
 ghost use Rattle.std.specs.Prelude.{◌≡◌, ◌≤◌, length, IfErr, IfOk};
 ghost use Rattle.c_ast.specs.View.{unit_of};
 ghost use Rattle.c_text.specs.ReadsBack.{ReadsBack};
-ghost use Rattle.c_reader.specs.Answers.{IsSpelled, OnlyUnit, Read, Told, ToldOfNone, text_limit, told_of};
+ghost use Rattle.c_reader.specs.Answers.{IsSpelled, OnlyUnit, Read, Told, ToldOfNone, ToldWithin, text_limit, told_of};
 
 use c_ast::{CUnit, Target};
 use c_parser::{UnitFault, parse_unit};
@@ -26,12 +26,12 @@ pub enum ReadFault {
 ///
 /// `At` with the first fault where no unit reads back: the first piece with which no unit goes on, the first bracket at which 301
 /// are open, or the first place where a rule of names or types is broken; or want of memory.
-#[tactic(auto, using(crate::proofs::Results::unit_read, crate::proofs::Results::only_read, crate::proofs::Results::fault_read, crate::proofs::Results::none_read))]
 pub fn read_unit(alloc: Global, bytes: &[u8], target: Target) -> Result<CUnit, ReadFault>
     requires { length bytes.now ≤ text_limit }
     ensures back { IfOk result (λ u. ReadsBack (unit_of u) bytes.now target) }
     ensures only { IfOk result (λ u. OnlyUnit target bytes.now (unit_of u)) }
     ensures fault { IfErr result (λ why. Told target bytes.now why) }
+    ensures within { IfErr result (λ why. ToldWithin bytes.now why) }
     ensures none { IfErr result (λ why. ToldOfNone target bytes.now why) }
 {
     read(alloc, bytes, target)

@@ -7,3 +7,4 @@ pub mod Verdicts
 pub mod Results
 pub mod Places
 pub mod UnitPlaces
+pub mod Examples

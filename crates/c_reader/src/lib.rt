@@ -12,5 +12,5 @@ mod tests;
 
 pub use c_ast::{CUnit, Target};
 pub use c_text::{CFault, CWhy};
-pub use laws::texts_read_or_have_a_fault;
+pub use laws::{small_texts_are_answered_so, texts_read_or_have_a_fault};
 pub use read::{ReadFault, read_unit};

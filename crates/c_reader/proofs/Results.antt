@@ -10,11 +10,10 @@ use Rattle.c_text.specs.declared.fault.CFault.{CFault}
 use Rattle.c_text.specs.declared.fault.CWhy.TheVariants.{Syntax, TooDeep}
 use Rattle.c_text.specs.UnitRules.{unit_demands}
 use Rattle.c_text.specs.Rules.{Demand}
-use Rattle.c_text.specs.Right.{IsKept}
+use Rattle.c_text.specs.Right.{IsKept, Right}
 use Rattle.c_text.specs.FirstFault.{told, or_earlier, first_fault}
 use Rattle.c_text.specs.ReadsBack.{ReadsBack}
-use Rattle.c_text.specs.Faults.{FaultAt, HasFault}
-use Rattle.c_text.proofs.FirstFault.{search_finds}
+use Rattle.c_text.specs.Faults.{FaultAt}
 use Rattle.reading.specs.Exact.{Tree}
 use Rattle.c_grammar.specs.Pieces.{pieces}
 use Rattle.c_grammar.specs.Subset.{parse}
@@ -23,7 +22,7 @@ use Rattle.c_parser.specs.declared.answer.UnitFault.TheVariants as parser
 use Rattle.c_parser.specs.Answers.{Says}
 use Rattle.c_reader.specs.declared.read.ReadFault.{ReadFault}
 use Rattle.c_reader.specs.declared.read.ReadFault.TheVariants as fault
-use Rattle.c_reader.specs.Answers.{OnlyUnit, Told, ToldOfNone, ToldWithin, Read, IsSpelled, told_of}
+use Rattle.c_reader.specs.Answers.{OnlyUnit, Told, ToldOfNone, ToldWithin, Read, IsSpelled, Kept, told_of}
 use Rattle.c_reader.proofs.Answered.{unit_answered, syntax_answered, deep_answered}
 use Rattle.c_reader.proofs.Verdicts.{broken_answered, not_unit_and_fault, one_unit, places_within}
 
@@ -61,11 +60,13 @@ all_kept (d ∷ ds) none =
     let w = kept_at d.kept d (first_fault ds) (or_earlier (told d) (first_fault ds)) none in
     All-cons IsKept d ds w.0 (all_kept ds w.1)
 
-pub right : (target : Target) (bytes : List ℕ) (u : TranslationUnit) → IsSpelled bytes u → first_fault (unit_demands target u) ≡ None → ReadsBack u bytes target
-right target bytes u s none = record { spelled = s.spelled; right = record { kept = all_kept (unit_demands target u) none }; shallow = s.shallow }
+pub kept : (target : Target) (u : TranslationUnit) → first_fault (unit_demands target u) ≡ None → Right target u
+kept target u none = record { kept = all_kept (unit_demands target u) none }
 
-pub broken : (target : Target) (bytes : List ℕ) (u : TranslationUnit) (f : CFault) → IsSpelled bytes u → first_fault (unit_demands target u) ≡ Some f → HasFault target bytes f
-broken target bytes u f s found = broken_answered target bytes u f s.spelled s.shallow (search_finds (unit_demands target u) f found)
+pub read_of_kept : (target : Target) (bytes : List ℕ) (u : TranslationUnit) (r : Result CUnit ReadFault) → IsSpelled bytes u → Kept target u r → Read target bytes r
+read_of_kept target bytes u (Ok v) s k = subst (λ w. ReadsBack w bytes target) (sym k.0) (record { spelled = s.spelled; right = k.1; shallow = s.shallow })
+read_of_kept target bytes u (Err (fault.At f)) s k = broken_answered target bytes u f s.spelled s.shallow k
+read_of_kept target bytes u (Err fault.Memory) s k = tt
 
 -- ---- what the parser's result says
 

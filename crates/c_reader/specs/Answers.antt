@@ -5,6 +5,9 @@ use Rattle.c_ast.specs.declared.unit.CUnit.{CUnit}
 use Rattle.c_ast.specs.Syntax.{TranslationUnit}
 use Rattle.c_ast.specs.View.{unit_of}
 use Rattle.c_text.specs.ReadsBack.{Spells, IsShallow, ReadsBack}
+use Rattle.c_text.specs.UnitRules.{unit_demands}
+use Rattle.c_text.specs.Right.{Right}
+use Rattle.c_text.specs.FirstFault.{IsFirst}
 use Rattle.c_text.specs.Faults.{HasFault}
 use Rattle.c_text.specs.declared.fault.CWhy.TheVariants.{Syntax, TooDeep}
 use Rattle.c_parser.specs.declared.answer.UnitFault.{UnitFault}
@@ -44,6 +47,12 @@ Read target bytes (Err why) = Told target bytes why
 pub record IsSpelled (bytes : List ℕ) (u : TranslationUnit) : Type 0 where
   pub spelled : Spells u bytes
   pub shallow : IsShallow bytes
+
+-- such a unit again, where its names and types are right
+abbrev pub Kept : Target → TranslationUnit → Result CUnit ReadFault → Type 0
+Kept target u (Ok v) = (unit_of v ≡ u) × Right target u
+Kept target u (Err (fault.At f)) = IsFirst (unit_demands target u) f
+Kept target u (Err fault.Memory) = Unit {0}
 
 -- what is told where the parser finds no unit
 abbrev pub told_of : UnitFault → ReadFault

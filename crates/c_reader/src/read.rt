@@ -3,7 +3,9 @@
 ghost use Rattle.std.specs.Prelude.{◌≡◌, ◌≤◌, length, IfErr, IfOk};
 ghost use Rattle.c_ast.specs.View.{unit_of};
 ghost use Rattle.c_text.specs.ReadsBack.{ReadsBack};
-ghost use Rattle.c_reader.specs.Answers.{IsSpelled, OnlyUnit, Read, Told, ToldOfNone, ToldWithin, text_limit, told_of};
+ghost use Rattle.c_text.specs.Spelling.{unit_text};
+ghost use Rattle.c_text.specs.Subset.{InSubset};
+ghost use Rattle.c_reader.specs.Answers.{Kept, OnlyUnit, Read, Told, ToldOfNone, ToldWithin, text_limit, told_of};
 
 use c_ast::{CUnit, Target};
 use c_parser::{UnitFault, parse_unit};
@@ -42,16 +44,16 @@ fn read(alloc: Global, bytes: &[u8], target: Target) -> Result<CUnit, ReadFault>
     ensures { Read target bytes.now result }
 {
     match parse_unit(alloc, bytes) {
-        Ok(unit) => kept(alloc, bytes, unit, target),
+        Ok(unit) => kept(alloc, unit, target),
         Err(why) => Err(told(why)),
     }
 }
 
-/// The unit of these bytes, where it keeps the rules of names and types.
-fn kept(alloc: Global, bytes: &[u8], unit: CUnit, target: Target) -> Result<CUnit, ReadFault>
-    requires short { length bytes.now ≤ text_limit }
-    requires spelled { IsSpelled bytes.now (unit_of unit) }
-    ensures { Read target bytes.now result }
+/// A unit of the subset again, where it keeps the rules of names and types.
+fn kept(alloc: Global, unit: CUnit, target: Target) -> Result<CUnit, ReadFault>
+    requires subset { InSubset (unit_of unit) }
+    requires short { length (unit_text (unit_of unit)) ≤ text_limit }
+    ensures { Kept target (unit_of unit) result }
 {
     match first_broken(alloc, &unit, target) {
         Ok(None) => Ok(unit),

@@ -1,0 +1,15 @@
+pub mod Walks
+pub mod ScopeLists
+pub mod Gates
+pub mod Rows
+pub mod Args
+pub mod SlotRows
+pub mod BraceRows
+pub mod Scopes
+pub mod FormLines
+pub mod StmtRows
+pub mod ParamRows
+pub mod SizeRows
+pub mod MemberRows
+pub mod Places
+pub mod Units

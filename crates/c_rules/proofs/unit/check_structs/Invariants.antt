@@ -1,0 +1,12 @@
+use Rattle.std.proofs.Common.{◌≡◌, [], drop, take}
+use Rattle.c_text.specs.Spelling.{struct_text}
+use Rattle.c_rules.specs.Sizes.{sized_view, sizes_of}
+use Rattle.c_rules.proofs.Rows.{Going}
+use Rattle.c_rules.proofs.Units.{struct_item, struct_next}
+use Rattle.c_rules.proofs.unit.check_structs.Given as goal
+
+abbrev pub invariant-loop-i : goal.invariant-loop-i
+invariant-loop-i l = record {
+  going : Going struct_text (struct_item l.target) struct_next l.initial.walk l.walk [] (take l.i l.structs) l.structs (drop l.i l.structs);
+  sized : sized_view l.sized ≡ sizes_of l.target (take l.i l.structs)
+}

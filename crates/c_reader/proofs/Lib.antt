@@ -1,0 +1,10 @@
+pub mod Cuts
+pub mod Begun
+pub mod OpenedLevels
+pub mod Depths
+pub mod Answered
+pub mod Verdicts
+pub mod Results
+pub mod Places
+pub mod UnitPlaces
+pub mod Examples

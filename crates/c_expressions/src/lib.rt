@@ -1,0 +1,13 @@
+//! The state of a running unit of C in code, and the values of its expressions and places.
+#![tactic(auto)]
+
+mod changes;
+mod evaluation;
+mod lvalues;
+mod program;
+mod state;
+
+pub use evaluation::{eval, eval_all, eval_place};
+pub use lvalues::{Lvalue, trouble_of};
+pub use program::Program;
+pub use state::{Local, Slot, State};

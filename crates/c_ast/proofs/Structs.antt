@@ -13,57 +13,58 @@ use Rattle.c_ast.specs.declared.types.CBase.{CBase}
 use Rattle.c_ast.specs.declared.types.CBase.TheVariants.{Struct as Named}
 use Rattle.c_ast.specs.Syntax.{Name}
 use Rattle.c_ast.specs.Places.{place_from}
-use Rattle.c_ast.specs.Structs.{CTree, look, or_empty, base_tree, row_of, struct_of, table, tree, times}
+use Rattle.c_ast.specs.Names.{named}
+use Rattle.c_ast.specs.Structs.{CTree, or_empty, base_tree, row_of, struct_of, table, tree, times}
 
-pub look_append : (tbl more : List (Name × CTree)) (w : Name) (a : CTree) → look tbl w ≡ Some a → look (tbl ++ more) w ≡ Some a
-look_append [] more w a h = absurd (cc)
-look_append (x ∷ tbl) more w a h = go (same_word x.0 w) h (look_append tbl more w a)
+pub named_append : (tbl more : List (Name × CTree)) (w : Name) (a : CTree) → named tbl w ≡ Some a → named (tbl ++ more) w ≡ Some a
+named_append [] more w a h = absurd (cc)
+named_append (x ∷ tbl) more w a h = go (same_word x.0 w) h (named_append tbl more w a)
   where
-    go : (b : Bool) → (if b then Some x.1 else look tbl w) ≡ Some a → (look tbl w ≡ Some a → look (tbl ++ more) w ≡ Some a) → (if b then Some x.1 else look (tbl ++ more) w) ≡ Some a
+    go : (b : Bool) → (if b then Some x.1 else named tbl w) ≡ Some a → (named tbl w ≡ Some a → named (tbl ++ more) w ≡ Some a) → (if b then Some x.1 else named (tbl ++ more) w) ≡ Some a
     go true e f = e
     go false e f = f e
 
-pub look_past : (tbl more : List (Name × CTree)) (w : Name) → look tbl w ≡ None → look (tbl ++ more) w ≡ look more w
-look_past [] more w h = refl
-look_past (x ∷ tbl) more w h = go (same_word x.0 w) h (look_past tbl more w)
+pub named_past : (tbl more : List (Name × CTree)) (w : Name) → named tbl w ≡ None → named (tbl ++ more) w ≡ named more w
+named_past [] more w h = refl
+named_past (x ∷ tbl) more w h = go (same_word x.0 w) h (named_past tbl more w)
   where
-    go : (b : Bool) → (if b then Some x.1 else look tbl w) ≡ None → (look tbl w ≡ None → look (tbl ++ more) w ≡ look more w) → (if b then Some x.1 else look (tbl ++ more) w) ≡ look more w
+    go : (b : Bool) → (if b then Some x.1 else named tbl w) ≡ None → (named tbl w ≡ None → named (tbl ++ more) w ≡ named more w) → (if b then Some x.1 else named (tbl ++ more) w) ≡ named more w
     go true e f = absurd (cc)
     go false e f = f e
 
 -- what stands in the table stays the first
-pub look_table : (ss : List CStruct) (tbl : List (Name × CTree)) (w : Name) (a : CTree) → look tbl w ≡ Some a → look (table tbl ss) w ≡ Some a
-look_table [] tbl w a h = h
-look_table (s ∷ ss) tbl w a h = look_table ss (tbl ++ (s.name, struct_of tbl s) ∷ []) w a (look_append tbl ((s.name, struct_of tbl s) ∷ []) w a h)
+pub named_table : (ss : List CStruct) (tbl : List (Name × CTree)) (w : Name) (a : CTree) → named tbl w ≡ Some a → named (table tbl ss) w ≡ Some a
+named_table [] tbl w a h = h
+named_table (s ∷ ss) tbl w a h = named_table ss (tbl ++ (s.name, struct_of tbl s) ∷ []) w a (named_append tbl ((s.name, struct_of tbl s) ∷ []) w a h)
 
 -- the struct found at k, built from those before it
 abbrev pub Found : ℕ → List (Name × CTree) → List CStruct → Name → Option ℕ → Type 0
-Found j tbl ss w None = look (table tbl ss) w ≡ None
-Found j tbl ss w (Some k) = (i : ℕ) × (k ≡ j + i) × (i < length ss) × ((d : CStruct) → look (table tbl ss) w ≡ Some (struct_of (table tbl (take i ss)) (get_or ss i d)))
+Found j tbl ss w None = named (table tbl ss) w ≡ None
+Found j tbl ss w (Some k) = (i : ℕ) × (k ≡ j + i) × (i < length ss) × ((d : CStruct) → named (table tbl ss) w ≡ Some (struct_of (table tbl (take i ss)) (get_or ss i d)))
 
 found_later : (s : CStruct) (ss : List CStruct) (j : ℕ) (tbl : List (Name × CTree)) (w : Name) (o : Option ℕ) → Found (suc j) (tbl ++ (s.name, struct_of tbl s) ∷ []) ss w o → Found j tbl (s ∷ ss) w o
 found_later s ss j tbl w None h = h
 found_later s ss j tbl w (Some k) h = (suc h.0, omega (arith, h.1), omega (arith, h.2), h.3)
 
-pub found : (ss : List CStruct) (j : ℕ) (tbl : List (Name × CTree)) (w : Name) → look tbl w ≡ None → Found j tbl ss w (place_from j ss w)
+pub found : (ss : List CStruct) (j : ℕ) (tbl : List (Name × CTree)) (w : Name) → named tbl w ≡ None → Found j tbl ss w (place_from j ss w)
 found [] j tbl w h = h
 found (s ∷ ss) j tbl w h =
     let next : List (Name × CTree) = tbl ++ (s.name, struct_of tbl s) ∷ [] in
-    go (same_word s.name w) refl (look_past tbl ((s.name, struct_of tbl s) ∷ []) w h) (found ss (suc j) next w)
+    go (same_word s.name w) refl (named_past tbl ((s.name, struct_of tbl s) ∷ []) w h) (found ss (suc j) next w)
   where
-    go : (b : Bool) → same_word s.name w ≡ b → look (tbl ++ (s.name, struct_of tbl s) ∷ []) w ≡ (if same_word s.name w then Some (struct_of tbl s) else None)
-        → (look (tbl ++ (s.name, struct_of tbl s) ∷ []) w ≡ None → Found (suc j) (tbl ++ (s.name, struct_of tbl s) ∷ []) ss w (place_from (suc j) ss w))
+    go : (b : Bool) → same_word s.name w ≡ b → named (tbl ++ (s.name, struct_of tbl s) ∷ []) w ≡ (if same_word s.name w then Some (struct_of tbl s) else None)
+        → (named (tbl ++ (s.name, struct_of tbl s) ∷ []) w ≡ None → Found (suc j) (tbl ++ (s.name, struct_of tbl s) ∷ []) ss w (place_from (suc j) ss w))
         → Found j tbl (s ∷ ss) w (if b then Some j else place_from (suc j) ss w)
-    go true e l f = (0, omega arith, omega arith, λ d. look_table ss (tbl ++ (s.name, struct_of tbl s) ∷ []) w (struct_of tbl s) (l ∙ ap (λ b. if b then Some (struct_of tbl s) else None) e))
+    go true e l f = (0, omega arith, omega arith, λ d. named_table ss (tbl ++ (s.name, struct_of tbl s) ∷ []) w (struct_of tbl s) (l ∙ ap (λ b. if b then Some (struct_of tbl s) else None) e))
     go false e l f = found_later s ss j tbl w (place_from (suc j) ss w) (f (l ∙ ap (λ b. if b then Some (struct_of tbl s) else None) e))
 
-pub tree_found : (ss : List CStruct) (w : Name) (k : ℕ) (d : CStruct) → place_from 0 ss w ≡ Some k → or_empty w (look (table [] ss) w) ≡ struct_of (table [] (take k ss)) (get_or ss k d)
+pub tree_found : (ss : List CStruct) (w : Name) (k : ℕ) (d : CStruct) → place_from 0 ss w ≡ Some k → or_empty w (named (table [] ss) w) ≡ struct_of (table [] (take k ss)) (get_or ss k d)
 tree_found ss w k d h =
     let f : Found 0 [] ss w (Some k) = subst (Found 0 [] ss w) h (found ss 0 [] w refl) in
     let e : f.0 ≡ k = omega (arith, f.1) in
     ap (or_empty w) (f.3 d) ∙ ap (λ i. struct_of (table [] (take i ss)) (get_or ss i d)) e
 
-pub tree_missing : (ss : List CStruct) (w : Name) → place_from 0 ss w ≡ None → or_empty w (look (table [] ss) w) ≡ Struct w End
+pub tree_missing : (ss : List CStruct) (w : Name) → place_from 0 ss w ≡ None → or_empty w (named (table [] ss) w) ≡ Struct w End
 tree_missing ss w h = (let f : Found 0 [] ss w None = subst (Found 0 [] ss w) h (found ss 0 [] w refl) in ap (or_empty w) f)
 
 pub align_named : (m : Metric CScalar) (ss : List CStruct) (b : CBase) (w : Name) (k : ℕ) (d : CStruct) → b ≡ Named w → place_from 0 ss w ≡ Some k → align m (tree ss b) ≡ align_row m (row_of (table [] (take k ss)) (get_or ss k d).members)

@@ -15,8 +15,8 @@ place_from k [] w = None
 place_from k (s ∷ ss) w = if same_word s.name w then Some k else place_from (suc k) ss w
 
 -- the type of a member, and all members, of a struct behind these structs
-abbrev pub member_tree : List CStruct → CMember → CTree
-member_tree earlier m = times m.length (base_tree (table [] earlier) m.base)
+abbrev pub member_type : List CStruct → CMember → CTree
+member_type earlier m = times m.length (base_tree (table [] earlier) m.base)
 
 abbrev pub member_row : List CStruct → List CMember → CRow
 member_row earlier ms = row_of (table [] earlier) ms

@@ -9,6 +9,7 @@ use Rattle.c_ast.specs.declared.types.CBase.TheVariants.{Scalar, Struct as Named
 use Rattle.c_ast.specs.declared.unit.CMember.{CMember}
 use Rattle.c_ast.specs.declared.unit.CStruct.{CStruct}
 use Rattle.c_ast.specs.Syntax.{Name}
+use Rattle.c_ast.specs.Names.{named}
 use Rattle.c_ast.specs.Scalars.{metric_of}
 use Rattle.type_trees.specs.Trees.{Tree, Leaf, Many, Struct, Row, End, Field}
 use Rattle.type_trees.specs.Layouts.{Metric, align, size, lay, offset_row}
@@ -21,35 +22,30 @@ CRow = Row CScalar Name
 
 -- ---- names resolved
 
--- the first of a name
-abbrev pub look : List (Name × CTree) → Name → Option CTree
-look [] w = None
-look (x ∷ xs) w = if same_word x.0 w then Some x.1 else look xs w
-
 -- a struct that is not there has no members
 abbrev pub or_empty : Name → Option CTree → CTree
 or_empty w None = Struct w End
 or_empty w (Some a) = a
 
 abbrev pub base_tree : List (Name × CTree) → CBase → CTree
-base_tree named (Scalar s) = Leaf s
-base_tree named (Named w) = or_empty w (look named w)
+base_tree known (Scalar s) = Leaf s
+base_tree known (Named w) = or_empty w (named known w)
 
 abbrev pub times : Option ℕ → CTree → CTree
 times None a = a
 times (Some n) a = Many n a
 
 abbrev pub row_of : List (Name × CTree) → List CMember → CRow
-row_of named [] = End
-row_of named (m ∷ ms) = Field m.name (times m.length (base_tree named m.base)) (row_of named ms)
+row_of known [] = End
+row_of known (m ∷ ms) = Field m.name (times m.length (base_tree known m.base)) (row_of known ms)
 
 abbrev pub struct_of : List (Name × CTree) → CStruct → CTree
-struct_of named s = Struct s.name (row_of named s.members)
+struct_of known s = Struct s.name (row_of known s.members)
 
 -- the structs so far, and then more of them, each made of those before it
 abbrev pub table : List (Name × CTree) → List CStruct → List (Name × CTree)
-table named [] = named
-table named (s ∷ ss) = table (named ++ (s.name, struct_of named s) ∷ []) ss
+table known [] = known
+table known (s ∷ ss) = table (known ++ (s.name, struct_of known s) ∷ []) ss
 
 -- a type where these structs are declared
 abbrev pub tree : List CStruct → CBase → CTree

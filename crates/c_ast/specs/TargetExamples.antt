@@ -7,7 +7,8 @@ use Rattle.c_ast.specs.declared.types.CScalar.TheVariants.{Truth, Int as Exact}
 use Rattle.c_ast.specs.declared.types.Arith.{Arith}
 use Rattle.c_ast.specs.declared.types.Arith.TheVariants.{Int, UInt, Long, ULong, LongLong, ULongLong}
 use Rattle.c_ast.specs.declared.expr.Suffix.TheVariants.{Plain, U}
-use Rattle.c_ast.specs.Targets.{TargetTable, Little, Big, table_of, promote, promote_in, common, common_in}
+use Rattle.c_memory.specs.Codecs.{Little, Big}
+use Rattle.c_ast.specs.Targets.{TargetTable, table_of, promote, promote_in, common, common_in}
 use Rattle.c_ast.specs.Conversions.{constant_type_in}
 use Rattle.c_ast.specs.TargetLaws.{SoundTable}
 

@@ -4,6 +4,7 @@ use Rattle.std.specs.Prelude.{ℕ, Bool, true, false, ◌&&◌, if◌then◌else
 use Rattle.iv_words.specs.Kinds.{in_range_of, least_of, greatest_of, width, is_signed}
 use Rattle.iv_words.specs.declared.IntKind.{IntKind}
 use Rattle.iv_words.specs.declared.IntKind.TheVariants.{U8, U16, U32, U64, I8, I16, I32, I64}
+use Rattle.c_memory.specs.Codecs.{ByteOrder, Little}
 use Rattle.c_ast.specs.declared.types.Target.{Target}
 use Rattle.c_ast.specs.declared.types.Target.TheVariants.{T32}
 use Rattle.c_ast.specs.declared.types.CScalar.{CScalar}
@@ -14,10 +15,6 @@ use Rattle.c_ast.specs.declared.types.CKind.{CKind}
 use Rattle.c_ast.specs.declared.types.CKind.TheVariants.{Scalar, Arith as Computed}
 
 -- ---- the table
-
--- which byte of a number has the lowest address: the lowest or the highest
-pub data ByteOrder : Type 0 where
-  Little Big : ByteOrder
 
 -- The bits of int, long and long long, signed and unsigned alike (6.2.5, 6.2.6.2); the byte order; the greatest alignment, in bytes,
 -- to which a scalar of at least so many bytes is aligned; and which of these types each exact-width type is (7.18.1.1): none for

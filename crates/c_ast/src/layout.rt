@@ -7,7 +7,7 @@ ghost use Rattle.c_ast.specs.Targets.{table_of};
 ghost use Rattle.type_trees.specs.Multiples.{up};
 ghost use Rattle.type_trees.specs.Layouts.{align_row, size, offset_row};
 ghost use Rattle.c_ast.specs.Scalars.{scalar_bytes, scalar_alignment, metric_of};
-ghost use Rattle.c_ast.specs.Places.{place_from, member_tree, member_row, row_size};
+ghost use Rattle.c_ast.specs.Places.{place_from, member_type, member_row, row_size};
 ghost use Rattle.c_ast.specs.Structs as types;
 ghost use Rattle.c_ast.specs.Structs.{index_of};
 
@@ -96,8 +96,8 @@ fn base_size(t: Target, structs: &[CStruct], b: &CBase) -> u64
 
 #[cycle(sizes)]
 fn member_size(t: Target, earlier: &[CStruct], m: &CMember) -> u64
-    requires { size (metric_of t) (member_tree earlier.now m.now) < 2 ^ 40 }
-    ensures { result ≡ size (metric_of t) (member_tree earlier.now m.now) }
+    requires { size (metric_of t) (member_type earlier.now m.now) < 2 ^ 40 }
+    ensures { result ≡ size (metric_of t) (member_type earlier.now m.now) }
 {
     match m.length {
         None => base_size(t, earlier, &m.base),

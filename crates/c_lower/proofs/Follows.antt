@@ -33,7 +33,7 @@ use Rattle.run_records.specs.declared.Piece.{Piece}
 use Rattle.run_records.specs.declared.Piece.TheVariants as piece
 use Rattle.c_meaning.specs.Values.{Trouble, CValue, on_ok, as_arguments}
 use Rattle.c_meaning.specs.Memory.{CObjects}
-use Rattle.c_meaning.specs.State.{Program, program_of, CState, at_rest, seen, leave, enter, pop}
+use Rattle.c_meaning.specs.State.{Program, program_of, CState, at_rest, seen, leave, enter, back}
 use Rattle.c_meaning.specs.Expressions.{eval_all}
 use Rattle.c_meaning.specs.Calls.{CallResult, Nothing, Calls, no_functions, given, pieces_of, written_shape, write_replies, reply_written, outside_with, outside, call_found, call}
 use Rattle.c_meaning.specs.Statements.{exec, exec_all}
@@ -192,12 +192,12 @@ module _ (m : FirstModule) (valid : Valid m) where
         let body : Progress source.State (Control (Option ℤ)) = source.execs m.imports p.calls n w s in
         let own : CState = enter [] t in
         let body' : ℕ → Progress CState (Control (Option CValue)) = λ j. exec_all program functions (body_for m.imports p.calls) j w own in
-        let framed : ℕ → Progress CState (Control (Option CValue)) = λ j. left (λ before after. pop after) t (left leave own (body' j)) in
+        let framed : ℕ → Progress CState (Control (Option CValue)) = λ j. left (λ before after. back after) t (left leave own (body' j)) in
         let ends : Control (Option ℤ) → Part source.State (Option ℤ) = λ control. give (source.result_of control) in
         eased none_excused (Returns Alike) 0 0 15 0 n (after body ends) (λ j. after (after (framed j) (function_value program Void)) (entry_result program)) (omega arith) (omega arith)
         (finished none_excused NoResult (Returns Alike) 0 0 0 n (after body ends) (λ j. after (framed j) (function_value program Void)) (entry_result program)
         (bound none_excused Fell NoResult 0 0 0 n body framed ends (function_value program Void)
-        (wrapped none_excused Fell Fell (λ before after. pop after) t 0 0 n body (λ j. left leave own (body' j)) (λ a u b v fell. fell_still a u b v (pop v) fell)
+        (wrapped none_excused Fell Fell (λ before after. back after) t 0 0 n body (λ j. left leave own (body' j)) (λ a u b v fell. fell_still a u b v (back v) fell)
         (wrapped none_excused Fell Fell leave own 0 0 n body body' (λ a u b v fell. fell_still a u b v (leave own v) fell) (body_follows p.calls right s own n w)))
         (λ a u b v fell i le x. value_follows a u b v fell i x))
         (λ a u b v none i x. subst (λ r. Follows none_excused (Returns Alike) 0 0 i (give a i x u) (λ j. entry_result program r j x v)) (sym none.1) (rests none_excused (Returns Alike) 0 a None i x u v (record { same = sym none.0; states = tt }))))

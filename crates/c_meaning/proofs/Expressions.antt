@@ -28,7 +28,7 @@ use Rattle.c_ast.proofs.Conversions.{converted_held}
 use Rattle.c_ast.proofs.Promotions.{targets_are_sound}
 use Rattle.c_meaning.specs.Values.{Trouble, Undefined, Stuck, Address as Pointing, CValue, Num, Ptr, held_type, is_true, on_ok, typed, as_kind, as_assigned, of_type}
 use Rattle.c_meaning.specs.Memory.{answered, unless_refused}
-use Rattle.c_meaning.specs.Places.{Lvalue, Known, Part, object_of, file_place, or_outer, pointee, part_at, member_of, element_of, of_scalar, read, address_of, pointer_cast, cast}
+use Rattle.c_meaning.specs.Places.{Lvalue, Known, Located, object_of, file_place, or_outer, pointee, part_at, member_of, element_of, of_scalar, read, address_of, pointer_cast, cast}
 use Rattle.c_meaning.specs.Operators.{unary, binary}
 use Rattle.c_meaning.specs.State.{Program, Slot, Holding, Naming, CState}
 use Rattle.c_ast.specs.Names.{named}
@@ -152,7 +152,7 @@ module _ (t : Target) (excuse : Type 0) where
 
 abbrev IsPart : Lvalue → Type 0
 IsPart (Known v) = ⊥
-IsPart (Part constant to a) = ⊤
+IsPart (Located constant to a) = ⊤
 
 -- a place of what is said of it, where only an excuse lets it be a part of an object
 record IsPlace (t : TargetTable) (excuse : Type 0) (said : Option PlaceType) (l : Lvalue) : Type 0 where
@@ -250,15 +250,15 @@ module _ (p : Program) (s : CState) (excuse : Type 0) where
   read_comes : (l : Lvalue) → IsTypedPlace table l → (IsPart l → excuse) → Comes table excuse (of_read (place_type_of l)) (read p.target s l)
   read_comes (Known (Num k v)) h o = record { typed = h; agrees = λ type is. some_is is }
   read_comes (Known (Ptr constant b to)) h o = alive_by constant b to _
-  read_comes (Part constant to (Leaf k)) h o = scalar_comes k (o tt) _
-  read_comes (Part constant to (Many n a)) h o = λ type is. cc
-  read_comes (Part constant to (Struct k r)) h o = λ type is. cc
+  read_comes (Located constant to (Leaf k)) h o = scalar_comes k (o tt) _
+  read_comes (Located constant to (Many n a)) h o = λ type is. cc
+  read_comes (Located constant to (Struct k r)) h o = λ type is. cc
 
   address_comes : (l : Lvalue) → Comes table excuse (of_address (place_type_of l)) (address_of l)
   address_comes (Known v) = λ type is. cc
-  address_comes (Part constant to (Leaf k)) = record { typed = tt; agrees = λ type is. some_is is }
-  address_comes (Part constant to (Many n a)) = λ type is. cc
-  address_comes (Part constant to (Struct k r)) = record { typed = tt; agrees = λ type is. some_is is }
+  address_comes (Located constant to (Leaf k)) = record { typed = tt; agrees = λ type is. some_is is }
+  address_comes (Located constant to (Many n a)) = λ type is. cc
+  address_comes (Located constant to (Struct k r)) = record { typed = tt; agrees = λ type is. some_is is }
 
   pointer_by : (constant : Bool) (b : CBase) (to : Pointing) (fault : Option Fault) → Comes table excuse (Some (PointerTo constant b)) (unless_refused fault (Ok (Ptr constant b to)))
   pointer_by constant b to None = record { typed = tt; agrees = λ type is. some_is is }
@@ -279,20 +279,20 @@ module _ (p : Program) (excuse : Type 0) (o : excuse) where
 
   member_comes : (m : Name) (l : Lvalue) → PlaceComes (table_of p.target) excuse (of_member m (place_type_of l)) (member_of p.target m l)
   member_comes m (Known v) = λ type is. cc
-  member_comes m (Part constant to (Leaf k)) = λ type is. cc
-  member_comes m (Part constant to (Many n a)) = λ type is. cc
-  member_comes m (Part constant to (Struct k r)) = part_by constant _ (member_tree r m)
+  member_comes m (Located constant to (Leaf k)) = λ type is. cc
+  member_comes m (Located constant to (Many n a)) = λ type is. cc
+  member_comes m (Located constant to (Struct k r)) = part_by constant _ (member_tree r m)
 
-  element_by : (constant : Bool) (to : Pointing) (a : CTree) (test : Bool) → PlaceComes (table_of p.target) excuse (Some (Stored constant a)) (if test then Ok (Part constant to a) else Err (Undefined Bounds))
+  element_by : (constant : Bool) (to : Pointing) (a : CTree) (test : Bool) → PlaceComes (table_of p.target) excuse (Some (Stored constant a)) (if test then Ok (Located constant to a) else Err (Undefined Bounds))
   element_by constant to a true = record { typed = tt; agrees = λ type is. some_is is; excused = λ z. o }
   element_by constant to a false = tt
 
   element_comes : (l : Lvalue) (v : CValue) → PlaceComes (table_of p.target) excuse (of_element (place_type_of l) (held_type v)) (element_of p.target l v)
   element_comes (Known u) v = λ type is. cc
-  element_comes (Part constant to (Leaf k)) v = λ type is. cc
-  element_comes (Part constant to (Struct k r)) v = λ type is. cc
-  element_comes (Part constant to (Many n a)) (Num k i) = element_by constant _ a _
-  element_comes (Part constant to (Many n a)) (Ptr c b other) = λ type is. cc
+  element_comes (Located constant to (Leaf k)) v = λ type is. cc
+  element_comes (Located constant to (Struct k r)) v = λ type is. cc
+  element_comes (Located constant to (Many n a)) (Num k i) = element_by constant _ a _
+  element_comes (Located constant to (Many n a)) (Ptr c b other) = λ type is. cc
 
 -- with an excuse for other forms nothing is asked
 any_form : (excuse : Type 0) → excuse → (e : Expr) → IsOfNumbers excuse e
@@ -311,7 +311,7 @@ any_form excuse o (Cond c a b) = (any_form excuse o c, any_form excuse o a, any_
 
 -- ---- all expressions
 
-module _ (p : Program) (s : CState) (h : NamesAreTyped (table_of p.target) s) (excuse : Type 0) (values : All (λ n. HoldsValue excuse n.1) s.own)
+module _ (p : Program) (s : CState) (h : NamesAreTyped (table_of p.target) s) (excuse : Type 0) (values : All (λ n. HoldsValue excuse n.1) s.frames.own)
     (others : (x : Name) (e : Entity) → declared (map file_entity p.unit.objects) x ≡ Some e → excuse) where
   abbrev t : TargetTable
   t = table_of p.target
@@ -327,7 +327,7 @@ module _ (p : Program) (s : CState) (h : NamesAreTyped (table_of p.target) s) (e
 
   name_place_comes : (x : Name) → PlaceComes t excuse (said_place (Var x)) (eval_place p (Var x) s)
   name_place_comes x =
-      name_comes t excuse p.unit.structs x (map file_entity p.unit.objects) (file_place p.unit.structs 0 p.unit.objects x) (file_comes t excuse p.unit.structs x p.unit.objects 0 (others x)) s.own h values
+      name_comes t excuse p.unit.structs x (map file_entity p.unit.objects) (file_place p.unit.structs 0 p.unit.objects x) (file_comes t excuse p.unit.structs x p.unit.objects 0 (others x)) s.frames.own h values
 
   mutual
     value_comes : (e : Expr) → IsOfNumbers excuse e → Comes t excuse (said e) (eval p e s)
@@ -375,7 +375,7 @@ comes_if t excuse said (Ok v) h = h
 comes_if t excuse said (Err why) h = tt
 
 pub values_have_their_types : ValuesHaveTheirTypes
-values_have_their_types p e s h = comes_if (table_of p.target) ⊤ (static_type p s e) (eval p e s) (value_comes p s h ⊤ (any_names s.own) (λ x entity is. tt) e (any_form ⊤ tt e))
+values_have_their_types p e s h = comes_if (table_of p.target) ⊤ (static_type p s e) (eval p e s) (value_comes p s h ⊤ (any_names s.frames.own) (λ x entity is. tt) e (any_form ⊤ tt e))
 
 place_if : (t : TargetTable) (said : Option PlaceType) (r : Result Lvalue Trouble) → PlaceComes t ⊤ said r → IfOk r (HasItsPlaceType t said)
 place_if t said (Ok l) h = record { typed = h.typed; agrees = h.agrees }
@@ -383,7 +383,7 @@ place_if t said (Err why) h = tt
 
 pub places_have_their_types : PlacesHaveTheirTypes
 places_have_their_types p place s h =
-    place_if (table_of p.target) (static_place_type p s place) (eval_place p place s) (place_comes p s h ⊤ (any_names s.own) (λ x entity is. tt) place tt)
+    place_if (table_of p.target) (static_place_type p s place) (eval_place p place s) (place_comes p s h ⊤ (any_names s.frames.own) (λ x entity is. tt) place tt)
 
 none_declared : (objects : List FileObject) → objects ≡ [] → (x : Name) (e : Entity) → declared (map file_entity objects) x ≡ Some e → ⊥
 none_declared objects none x e is = let found : (let r : Option Entity = None in r) ≡ Some e = subst (λ os. declared (map file_entity os) x ≡ Some e) none is in cc

@@ -19,7 +19,7 @@ use Rattle.c_ast.specs.declared.CType.TheVariants.{Void, Value, Pointer}
 use Rattle.c_ast.specs.declared.CExtern.{CExtern}
 use Rattle.c_ast.specs.Syntax.{Name, Expr, FunctionCall, Stmt, Const, ConstCall, Object, Assign, If, IfElse, Forever, Break, Return, Block, Call, Stmts, Nil, Cons, Function}
 use Rattle.c_meaning.specs.Values.{Trouble, Undefined, Stuck, CValue, Num, Ptr, is_true, on_ok, as_assigned, as_arguments}
-use Rattle.c_meaning.specs.State.{Program, program_of, end_in, CState, declare, declare_object, enter, pop, seen, leave}
+use Rattle.c_meaning.specs.State.{Program, program_of, end_in, CState, declare, declare_object, enter, back, seen, leave}
 use Rattle.c_memory.specs.Initializers.{Init}
 use Rattle.c_ast.specs.Structs.{tree}
 use Rattle.c_meaning.specs.Memory.{memory_of}
@@ -133,7 +133,7 @@ module _ (p : Program) (functions : Calls) (l : LawfulCalls functions) where
   function_value_lawful result Broke = troubled_lawful p Stuck
 
   function_body_lawful : (f : Function) (args : List CValue) → Lawful (function_body p functions f args)
-  function_body_lawful f args = bind_lawful _ (function_value p f.result) (in_frame_lawful (enter (bound f.params args)) pop _ (block_lawful leave _ (exec_all_lawful f.body))) (function_value_lawful f.result)
+  function_body_lawful f args = bind_lawful _ (function_value p f.result) (in_frame_lawful (enter (bound f.params args)) back _ (block_lawful leave _ (exec_all_lawful f.body))) (function_value_lawful f.result)
 
   pub function_call_lawful : (f : Function) (values : List CValue) → Lawful (function_call p functions f values)
   function_call_lawful f values = given_lawful p (as_arguments p.target (param_types f.params) values) (function_body p functions f) (function_body_lawful f)

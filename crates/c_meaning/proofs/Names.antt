@@ -36,7 +36,7 @@ declared_as_held (n ∷ names) rest x v e = either v n.1 (named names x) (declar
 
 pub name_type_is : (p : Program) (s : CState) (x : Name) (v : CValue) → name_value s x ≡ Some v → static_type p s (Read (Var x)) ≡ Some (held_type v)
 name_type_is p s x v e =
-    ap (λ found. option_and_then of_read (option_map (of_entity p.unit.structs) found)) (declared_as_held s.own (map file_entity p.unit.objects) x v e)
+    ap (λ found. option_and_then of_read (option_map (of_entity p.unit.structs) found)) (declared_as_held s.frames.own (map file_entity p.unit.objects) x v e)
 
 -- a number needs no object
 found_gives : (p : Program) (s : CState) (kind : CKind) (v : ℤ) (found : Option Slot) (outer : Result Lvalue Trouble) → value_in found ≡ Some (Num kind v) → on_ok (or_outer p.unit.structs found outer) (read p.target s) ≡ Ok (Num kind v)
@@ -45,7 +45,7 @@ found_gives p s kind v (Some (Naming o b)) outer e = let no : ⊥ = cc in absurd
 found_gives p s kind v (Some (Holding u)) outer e = let is : u ≡ Num kind v = cc in ap (alive s) is
 
 pub name_gives : (p : Program) (s : CState) (x : Name) (kind : CKind) (v : ℤ) → name_value s x ≡ Some (Num kind v) → eval p (Read (Var x)) s ≡ Ok (Num kind v)
-name_gives p s x kind v e = found_gives p s kind v (named s.own x) _ e
+name_gives p s x kind v e = found_gives p s kind v (named s.frames.own x) _ e
 
 -- ---- names are as declared
 

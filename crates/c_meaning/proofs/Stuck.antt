@@ -14,6 +14,7 @@ use Rattle.run_records.specs.declared.Plain.{Plain}
 use Rattle.run_records.specs.declared.Script.{Script}
 use Rattle.run_records.specs.Scripts.{plain_fits, values_fit, export_of, found_fits, Fits}
 use Rattle.step_semantics.specs.Steps.{World, FailedCheck, Part, give, bind, tick, change, block}
+use Rattle.step_semantics.specs.Frames.{without}
 use Rattle.step_semantics.specs.Control.{Control, Falls, Broke, Returned}
 use Rattle.step_semantics.specs.Imports.{import_call}
 use Rattle.step_semantics.specs.Safe.{Keeps}
@@ -35,7 +36,7 @@ use Rattle.c_ast.specs.StaticTypes.{ValueType, Arithmetic, ConstName, declared, 
 use Rattle.c_ast.specs.Syntax.{Name, Expr, FunctionCall, Stmt, Const, ConstCall, Object, Assign, If, IfElse, Forever, Break, Return, Block, Call, Stmts, Nil, Cons, FileObject, Function, TranslationUnit}
 use Rattle.c_ast.specs.Targets.{TargetTable, table_of}
 use Rattle.c_meaning.specs.Values.{Trouble, Undefined, Stuck, CValue, Num, Ptr, held_type, is_true, on_ok, as_kind, as_assigned, as_arguments}
-use Rattle.c_meaning.specs.State.{Program, Frame, Holding, CState, at_rest, seen, declare, leave, enter, returned_to, pop, in_own_frame}
+use Rattle.c_meaning.specs.State.{Program, Frame, Holding, CState, at_rest, seen, declare, leave, enter, back, in_own_frame}
 use Rattle.c_meaning.specs.Memory.{CObjects, answered}
 use Rattle.c_memory.specs.Access.{Fault}
 use Rattle.c_ast.specs.Structs.{tree}
@@ -165,8 +166,7 @@ module _ (u : TranslationUnit) (target : Target) where
 
   -- the names of the function that runs, and of those that wait, are as they were
   record SameNames (s v : CState) : Type 0 where
-    own : v.own ≡ s.own
-    callers : v.callers ≡ s.callers
+    frames : v.frames ≡ s.frames
 
   abbrev CallPost : CType → CState → CallResult → CState → Type 0
   CallPost result s value v = Gives result value × SameNames s v
@@ -189,12 +189,12 @@ module _ (u : TranslationUnit) (target : Target) where
   shape_good (Pointer constant base) more is = absurd is
 
   same_names : (s v : CState) → v ≡ s → SameNames s v
-  same_names s v same = record { own = ap (λ x. x.own) same; callers = ap (λ x. x.callers) same }
+  same_names s v same = record { frames = ap (λ x. x.frames) same }
 
   written_keeps : (result : CType) (args : List CValue) (reply : CallResult × List ℤ) → Gives result reply.0 → (s v : CState) → v ≡ s → (n : ℕ) (w : World) → Keeps IsNotStuck (CallPost result s) (reply_written p args reply n w v)
   written_keeps result args reply gives s v same n w =
       good_given (λ made. ⊤) (CallPost result s) (write_replies target u.structs args reply.1 v.objects) (λ objects. change reply.0 (λ x. record x { objects = objects })) n w v (written_good args reply.1 v.objects)
-      (λ made x. (gives, record { own = (same_names s v same).own; callers = (same_names s v same).callers }))
+      (λ made x. (gives, record { frames = (same_names s v same).frames }))
 
   outside_keeps : (x : CExtern) → IsResult x.result → (args : List CValue) → AreHeld x.params args → (n : ℕ) (w : World) (s : CState) → Keeps IsNotStuck (CallPost x.result s) (outside p x args n w s)
   outside_keeps x is args held n w s =
@@ -266,17 +266,17 @@ module _ (u : TranslationUnit) (target : Target) where
   -- ---- states within a function
 
   record Within (scope : Declarations) (callers : List Frame) (s : CState) : Type 0 where
-    typed : All (λ n. SlotIsTyped t n.1) s.own
-    names : map local_entity s.own ≡ scope
-    values : All (λ n. HoldsValue ⊥ n.1) s.own
-    waiting : s.callers ≡ callers
+    typed : All (λ n. SlotIsTyped t n.1) s.frames.own
+    names : map local_entity s.frames.own ≡ scope
+    values : All (λ n. HoldsValue ⊥ n.1) s.frames.own
+    waiting : s.frames.callers ≡ callers
 
   same_within : (scope : Declarations) (callers : List Frame) (s v : CState) → Within scope callers s → SameNames s v → Within scope callers v
   same_within scope callers s v inv same = record {
-    typed = subst (All (λ n. SlotIsTyped t n.1)) (sym same.own) inv.typed;
-    names = ap (map local_entity) same.own ∙ inv.names;
-    values = subst (All (λ n. HoldsValue ⊥ n.1)) (sym same.own) inv.values;
-    waiting = same.callers ∙ inv.waiting;
+    typed = subst (All (λ n. SlotIsTyped t n.1)) (ap (λ f. f.own) (sym same.frames)) inv.typed;
+    names = ap (λ f. map local_entity f.own) same.frames ∙ inv.names;
+    values = subst (All (λ n. HoldsValue ⊥ n.1)) (ap (λ f. f.own) (sym same.frames)) inv.values;
+    waiting = ap (λ f. f.callers) same.frames ∙ inv.waiting;
   }
 
   comes_good : (kind : CKind) (said : Option ValueType) (r : Result CValue Trouble) → Comes t ⊥ said r → said ≡ Some (Arithmetic kind) → Good Typed r
@@ -292,7 +292,7 @@ module _ (u : TranslationUnit) (target : Target) where
   module _ (no_objects : u.objects ≡ []) (externs : All ExternIsMeant u.externs) (earlier : List Function) (functions : Calls) (keep : CallsKeep earlier functions) (result : CType) (callers : List Frame) where
     declared_are : (scope : Declarations) (s : CState) → Within scope callers s → declarations p s ≡ scope
     declared_are scope s inv =
-        ap (λ os. map local_entity s.own ++ map file_entity os) no_objects ∙ append-nil (map local_entity s.own) ∙ inv.names
+        ap (λ os. map local_entity s.frames.own ++ map file_entity os) no_objects ∙ append-nil (map local_entity s.frames.own) ∙ inv.names
 
     number_good : (scope : Declarations) (e : Expr) → IsNumber u target earlier result scope e → (s : CState) → Within scope callers s → Good Typed (eval p e s)
     number_good scope e number s inv =
@@ -312,13 +312,13 @@ module _ (u : TranslationUnit) (target : Target) where
     -- behind a statement, behind a row of them, and behind a block
     abbrev After : Declarations → Bool → Control (Option CValue) → CState → Type 0
     After scope in_loop Falls v = Within scope callers v
-    After scope in_loop Broke v = IsTrue in_loop × (v.callers ≡ callers)
-    After scope in_loop (Returned value) v = Returns result value × (v.callers ≡ callers)
+    After scope in_loop Broke v = IsTrue in_loop × (v.frames.callers ≡ callers)
+    After scope in_loop (Returned value) v = Returns result value × (v.frames.callers ≡ callers)
 
     abbrev Ends : Bool → Control (Option CValue) → CState → Type 0
-    Ends in_loop Falls v = v.callers ≡ callers
-    Ends in_loop Broke v = IsTrue in_loop × (v.callers ≡ callers)
-    Ends in_loop (Returned value) v = Returns result value × (v.callers ≡ callers)
+    Ends in_loop Falls v = v.frames.callers ≡ callers
+    Ends in_loop Broke v = IsTrue in_loop × (v.frames.callers ≡ callers)
+    Ends in_loop (Returned value) v = Returns result value × (v.frames.callers ≡ callers)
 
     abbrev Left : Declarations → Bool → Control (Option CValue) → CState → Type 0
     Left scope in_loop Falls v = Within scope callers v
@@ -330,7 +330,7 @@ module _ (u : TranslationUnit) (target : Target) where
     left_after scope in_loop Broke v h = (h.0, h.1.waiting)
     left_after scope in_loop (Returned value) v h = (h.0, h.1.waiting)
 
-    restored : (scope : Declarations) (s v : CState) → Within scope callers s → v.callers ≡ callers → Within scope callers (leave s v)
+    restored : (scope : Declarations) (s v : CState) → Within scope callers s → v.frames.callers ≡ callers → Within scope callers (leave s v)
     restored scope s v inv waiting = record { typed = inv.typed; names = inv.names; values = inv.values; waiting = waiting }
 
     ends_left : (scope : Declarations) (in_loop : Bool) (s : CState) → Within scope callers s → (control : Control (Option CValue)) (v : CState) → Ends in_loop control v → Left scope in_loop control (leave s v)
@@ -355,9 +355,9 @@ module _ (u : TranslationUnit) (target : Target) where
 
     named_within : (x : Name) (y : CScalar) (a : CValue) → Holds (Value y) a → (scope : Declarations) (s : CState) → Within scope callers s → Within ((x, ConstName (Arithmetic (Scalar y))) ∷ scope) callers (declare x a s)
     named_within x y a holds scope s inv = record {
-      typed = All-cons (λ n. SlotIsTyped t n.1) (x, Holding a) s.own (typed_is a holds.0) inv.typed;
-      names = ap (λ ty. (x, ConstName ty) ∷ map local_entity s.own) holds.1 ∙ ap (λ ds. (x, ConstName (Arithmetic (Scalar y))) ∷ ds) inv.names;
-      values = All-cons (λ n. HoldsValue ⊥ n.1) (x, Holding a) s.own tt inv.values;
+      typed = All-cons (λ n. SlotIsTyped t n.1) (x, Holding a) s.frames.own (typed_is a holds.0) inv.typed;
+      names = ap (λ ty. (x, ConstName ty) ∷ map local_entity s.frames.own) holds.1 ∙ ap (λ ds. (x, ConstName (Arithmetic (Scalar y))) ∷ ds) inv.names;
+      values = All-cons (λ n. HoldsValue ⊥ n.1) (x, Holding a) s.frames.own tt inv.values;
       waiting = inv.waiting;
     }
 
@@ -442,8 +442,8 @@ module _ (u : TranslationUnit) (target : Target) where
   bound_names (x ∷ xs) [] h = absurd h
   bound_names (x ∷ xs) (a ∷ args) h = ap (λ ds. (x.name, ConstName (held_type a)) ∷ ds) (bound_names xs args h.1) ∙ bound_named x.name x.ty a (of_params xs) h.0
 
-  popped_same : (s v : CState) → v.callers ≡ s.own ∷ s.callers → SameNames s (pop v)
-  popped_same s v e = record { own = ap (λ waiting. (returned_to waiting v).own) e; callers = ap (λ waiting. (returned_to waiting v).callers) e }
+  popped_same : (s v : CState) → v.frames.callers ≡ s.frames.own ∷ s.frames.callers → SameNames s (back v)
+  popped_same s v e = record { frames = ap (without v.frames.own) e }
 
   -- control as it leaves a function
   abbrev Gone : CType → Control (Option CValue) → Type 0
@@ -469,9 +469,9 @@ module _ (u : TranslationUnit) (target : Target) where
   module _ (no_objects : u.objects ≡ []) (externs : All ExternIsMeant u.externs) where
     module _ (earlier : List Function) (functions : Calls) (keep : CallsKeep earlier functions) (f : Function) (meant : FunctionIsMeant u target earlier f) where
       abbrev LeftIn : CState → Control (Option CValue) → CState → Type 0
-      LeftIn s = Left no_objects externs earlier functions keep f.result (s.own ∷ s.callers) (of_params f.params) false
+      LeftIn s = Left no_objects externs earlier functions keep f.result (s.frames.own ∷ s.frames.callers) (of_params f.params) false
 
-      gone : (s : CState) (control : Control (Option CValue)) (v : CState) → LeftIn s control v → Gone f.result control × SameNames s (pop v)
+      gone : (s : CState) (control : Control (Option CValue)) (v : CState) → LeftIn s control v → Gone f.result control × SameNames s (back v)
       gone s Falls v h = (tt, popped_same s v h.waiting)
       gone s Broke v h = let no : ⊥ = (let broke : IsTrue false = h.0 in cc) in absurd no
       gone s (Returned value) v h = (h.0, popped_same s v h.1.waiting)
@@ -481,10 +481,10 @@ module _ (u : TranslationUnit) (target : Target) where
           let inner : CState = enter (bound f.params args) s in
           let body : Part CState (Control (Option CValue)) = block leave (exec_all p functions f.body) in
           let mid : Control (Option CValue) → CState → Type 0 = λ control v. Gone f.result control × SameNames s v in
-          let within : Within (of_params f.params) (s.own ∷ s.callers) inner = record { typed = bound_typed f.params args held; names = bound_names f.params args held; values = bound_values f.params args; waiting = refl } in
+          let within : Within (of_params f.params) (s.frames.own ∷ s.frames.callers) inner = record { typed = bound_typed f.params args held; names = bound_names f.params args held; values = bound_values f.params args; waiting = refl } in
           keeps_after IsNotStuck mid (CallPost f.result s) (in_own_frame (bound f.params args) body n w s) (function_value p f.result)
-          (keeps_in_frame IsNotStuck (LeftIn s) mid (enter (bound f.params args)) pop body n w s (gone s)
-          (left_keeps no_objects externs earlier functions keep f.result (s.own ∷ s.callers) f.body (of_params f.params) false meant.body n w inner within))
+          (keeps_in_frame IsNotStuck (LeftIn s) mid (enter (bound f.params args)) back body n w s (gone s)
+          (left_keeps no_objects externs earlier functions keep f.result (s.frames.own ∷ s.frames.callers) f.body (of_params f.params) false meant.body n w inner within))
           (λ control v h m later. value_keeps f.result control h.0 s v h.1 m later)
 
       function_keeps : (values : List CValue) → AreNumbers (param_types f.params) values → (n : ℕ) (w : World) (s : CState) → Keeps IsNotStuck (CallPost f.result s) (function_call p functions f values n w s)

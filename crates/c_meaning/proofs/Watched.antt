@@ -32,7 +32,7 @@ use Rattle.c_meaning.specs.Memory.{CObjects}
 use Rattle.c_meaning.specs.Places.{Lvalue, pointee, member_of, element_of, alive, read, address_of, cast}
 use Rattle.c_meaning.specs.Initializers.{eval_init, eval_inits, made_with}
 use Rattle.c_meaning.specs.Operators.{unary, binary}
-use Rattle.c_meaning.specs.State.{Program, program_of, CState, at_rest, enter, leave, pop, seen}
+use Rattle.c_meaning.specs.State.{Program, program_of, CState, at_rest, enter, leave, back, seen}
 use Rattle.c_meaning.specs.Expressions.{static_type, as_common, eval, eval_place, eval_all}
 use Rattle.c_meaning.specs.Calls.{troubled, given, CallResult, Nothing, Missing, Gave, Calls, no_functions, stop_at, stop_call, pieces_of, reply_shape, written_shape, reply_value, write_replies, reply_written, outside_with, outside, call_found, call}
 use Rattle.c_meaning.specs.Statements.{with_value, with_truth, call_step, used, declaration, object_with, stored, assign, exec, exec_all}
@@ -78,8 +78,8 @@ left_same leave s (Exhausted w) r' e moves = ap (left leave s) (e tt)
 agree_block : {A : Type 0} {part part' : Part CState A} → Agree part part' → Agree (block leave part) (block leave part')
 agree_block {A} {part} {part'} e = record { same = λ n w s moves. left_same leave s (part n w s) (part' n w s) (e.same n w s) moves }
 
-agree_in_frame : {A : Type 0} (push : CState → CState) {part part' : Part CState A} → Agree part part' → Agree (in_frame push pop part) (in_frame push pop part')
-agree_in_frame push {part} {part'} e = record { same = λ n w s moves. left_same (λ before end. pop end) s (part n w (push s)) (part' n w (push s)) (e.same n w (push s)) moves }
+agree_in_frame : {A : Type 0} (push : CState → CState) {part part' : Part CState A} → Agree part part' → Agree (in_frame push back part) (in_frame push back part')
+agree_in_frame push {part} {part'} e = record { same = λ n w s moves. left_same (λ before end. back end) s (part n w (push s)) (part' n w (push s)) (e.same n w (push s)) moves }
 
 agree_choice : {A : Type 0} (test : Bool) {c d c' d' : Part CState A} → Agree c c' → Agree d d' → Agree (if test then c else d) (if test then c' else d')
 agree_choice true e f = e

@@ -8,7 +8,7 @@ use Rattle.c_ast.specs.Targets.{TargetTable, table_of}
 use Rattle.c_ast.specs.Conversions.{can_hold}
 use Rattle.c_meaning.specs.Values.{Stuck, CValue, Num, Ptr, held_type}
 use Rattle.c_meaning.specs.State.{Program, Slot, Holding, Naming, CState}
-use Rattle.c_meaning.specs.Places.{Lvalue, Known, Part}
+use Rattle.c_meaning.specs.Places.{Lvalue, Known, Located}
 use Rattle.c_meaning.specs.Expressions.{static_type, static_place_type, eval, eval_place}
 
 -- a value whose number is one of its type
@@ -21,7 +21,7 @@ SlotIsTyped t (Holding v) = IsTyped t v
 SlotIsTyped t (Naming object base) = ⊤
 
 abbrev pub NamesAreTyped : TargetTable → CState → Type 0
-NamesAreTyped t s = All (λ n. SlotIsTyped t n.1) s.own
+NamesAreTyped t s = All (λ n. SlotIsTyped t n.1) s.frames.own
 
 -- its number is one of its type, and its type is that of its expression, where that has one
 pub record HasItsType (t : TargetTable) (of_expression : Option ValueType) (v : CValue) : Type 0 where
@@ -31,11 +31,11 @@ pub record HasItsType (t : TargetTable) (of_expression : Option ValueType) (v : 
 -- a place has the type of its expression; a value that a name holds is one of its type
 abbrev pub place_type_of : Lvalue → PlaceType
 place_type_of (Known v) = Held (held_type v)
-place_type_of (Part constant to a) = Stored constant a
+place_type_of (Located constant to a) = Stored constant a
 
 abbrev pub IsTypedPlace : TargetTable → Lvalue → Type 0
 IsTypedPlace t (Known v) = IsTyped t v
-IsTypedPlace t (Part constant to a) = ⊤
+IsTypedPlace t (Located constant to a) = ⊤
 
 pub record HasItsPlaceType (t : TargetTable) (of_place : Option PlaceType) (l : Lvalue) : Type 0 where
   pub typed : IsTypedPlace t l
@@ -74,7 +74,7 @@ HoldsValue others (Holding v) = ⊤
 HoldsValue others (Naming object base) = others
 
 abbrev pub HasNoObjects : Program → CState → Type 0
-HasNoObjects p s = All (λ n. HoldsValue ⊥ n.1) s.own × (p.unit.objects ≡ [])
+HasNoObjects p s = All (λ n. HoldsValue ⊥ n.1) s.frames.own × (p.unit.objects ≡ [])
 
 abbrev pub TypedNumbersAreNotStuck : Type 0
 TypedNumbersAreNotStuck =

@@ -8,7 +8,6 @@ use Rattle.type_trees.specs.Trees.{Leaf, Many, Struct}
 use Rattle.c_memory.specs.Abstract.{Operations}
 use Rattle.c_memory.specs.Access.{Fault, Dead, BadAccess, Indeterminate, ConstWrite}
 use Rattle.c_memory.specs.Bytes.{Byte}
-use Rattle.c_memory.specs.Codecs as order
 use Rattle.c_memory.specs.Codecs.{ScalarTable}
 use Rattle.c_memory.specs.Memories.{memory_of_numbers}
 use Rattle.c_memory.specs.Objects.{Objects}
@@ -22,20 +21,16 @@ use Rattle.c_ast.specs.Scalars.{metric}
 use Rattle.c_ast.specs.StaticTypes.{same_scalar}
 use Rattle.c_ast.specs.Structs.{CTree}
 use Rattle.c_ast.specs.Syntax.{Name}
-use Rattle.c_ast.specs.Targets.{ByteOrder, Little, Big, TargetTable, table_of}
+use Rattle.c_ast.specs.Targets.{TargetTable, table_of}
 use Rattle.c_meaning.specs.Values.{Trouble, Undefined, Address}
 
 -- ---- scalars of a target
-
-abbrev pub order_of : ByteOrder → order.ByteOrder
-order_of Little = order.Little
-order_of Big = order.Big
 
 abbrev pub scalar_table : TargetTable → ScalarTable CScalar
 scalar_table t = record {
   metric = metric t;
   signed = λ s. kind_signed (Scalar s);
-  order = order_of t.byte_order;
+  order = t.byte_order;
   same = same_scalar;
   holds = λ s v. can_hold t (Scalar s) v;
 }

@@ -63,8 +63,7 @@ to_byte o k = Ptr false byte (record { object = o; offset = k })
 -- pointers to the ended byte, and to the padding of the pair
 abbrev pub there : CState
 there = record {
-  own = (codes "iv_p", Naming 1 pair) ∷ (codes "iv_r", Naming 2 row) ∷ (codes "iv_u", Naming 3 byte) ∷ (codes "iv_d", Holding (to_byte 4 0)) ∷ (codes "iv_q", Holding (to_byte 1 1)) ∷ [];
-  callers = [];
+  frames = record { own = (codes "iv_p", Naming 1 pair) ∷ (codes "iv_r", Naming 2 row) ∷ (codes "iv_u", Naming 3 byte) ∷ (codes "iv_d", Holding (to_byte 4 0)) ∷ (codes "iv_q", Holding (to_byte 1 1)) ∷ []; callers = [] };
   objects = objects;
 }
 

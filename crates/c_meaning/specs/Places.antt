@@ -27,13 +27,13 @@ use Rattle.c_meaning.specs.State.{Program, Slot, Holding, Naming, CState, lives}
 -- A place: a value that a name holds for good, or a part of an object, which may be named as const here, with where it begins and its type.
 pub data Lvalue : Type 0 where
   Known : CValue → Lvalue
-  Part : (constant : Bool) → Address → CTree → Lvalue
+  Located : (constant : Bool) → Address → CTree → Lvalue
 
 -- ---- names (6.5.1)
 
 -- a whole object
 abbrev pub object_of : List CStruct → (constant : Bool) → ℕ → CBase → Lvalue
-object_of structs constant o b = Part constant (record { object = o; offset = 0 }) (tree structs b)
+object_of structs constant o b = Located constant (record { object = o; offset = 0 }) (tree structs b)
 
 abbrev pub slot_place : List CStruct → Slot → Lvalue
 slot_place structs (Holding v) = Known v
@@ -50,40 +50,40 @@ or_outer structs (Some slot) outer = Ok (slot_place structs slot)
 or_outer structs None outer = outer
 
 abbrev pub name_place : Program → CState → Name → Result Lvalue Trouble
-name_place p s x = or_outer p.unit.structs (named s.own x) (file_place p.unit.structs 0 p.unit.objects x)
+name_place p s x = or_outer p.unit.structs (named s.frames.own x) (file_place p.unit.structs 0 p.unit.objects x)
 
 -- ---- parts (6.5.2.1, 6.5.2.3, 6.5.3.2)
 
 -- `*` of a pointer
 abbrev pub pointee : List CStruct → CValue → Result Lvalue Trouble
 pointee structs (Num kind v) = Err Stuck
-pointee structs (Ptr constant b to) = Ok (Part constant to (tree structs b))
+pointee structs (Ptr constant b to) = Ok (Located constant to (tree structs b))
 
 abbrev pub behind : Address → ℕ → Address
 behind to bytes = record to { offset = to.offset + bytes }
 
 abbrev pub part_at : Bool → Address → Option CTree → Result Lvalue Trouble
 part_at constant to None = Err Stuck
-part_at constant to (Some a) = Ok (Part constant to a)
+part_at constant to (Some a) = Ok (Located constant to a)
 
 -- a member of a struct
 abbrev pub member_of : Target → Name → Lvalue → Result Lvalue Trouble
 member_of t m (Known v) = Err Stuck
-member_of t m (Part constant to (Leaf s)) = Err Stuck
-member_of t m (Part constant to (Many n a)) = Err Stuck
-member_of t m (Part constant to (Struct k r)) = part_at constant (behind to (offset_named (metric_of t) (Struct k r) m)) (member_tree r m)
+member_of t m (Located constant to (Leaf s)) = Err Stuck
+member_of t m (Located constant to (Many n a)) = Err Stuck
+member_of t m (Located constant to (Struct k r)) = part_at constant (behind to (offset_named (metric_of t) (Struct k r) m)) (member_tree r m)
 
 -- An element of an array of n. An index must be in range also where no more than the address is taken; this is stricter than 6.5.6.
 abbrev pub element_at : Target → Bool → Address → ℕ → CTree → ℤ → Result Lvalue Trouble
 element_at t constant to n a i =
-    if int_le (pos 0) i && int_lt i (pos n) then Ok (Part constant (behind to (unsigned_abs i * size (metric_of t) a)) a) else Err (Undefined Bounds)
+    if int_le (pos 0) i && int_lt i (pos n) then Ok (Located constant (behind to (unsigned_abs i * size (metric_of t) a)) a) else Err (Undefined Bounds)
 
 abbrev pub element_of : Target → Lvalue → CValue → Result Lvalue Trouble
 element_of t (Known u) v = Err Stuck
-element_of t (Part constant to (Leaf s)) v = Err Stuck
-element_of t (Part constant to (Struct k r)) v = Err Stuck
-element_of t (Part constant to (Many n a)) (Num kind i) = element_at t constant to n a i
-element_of t (Part constant to (Many n a)) (Ptr c b other) = Err Stuck
+element_of t (Located constant to (Leaf s)) v = Err Stuck
+element_of t (Located constant to (Struct k r)) v = Err Stuck
+element_of t (Located constant to (Many n a)) (Num kind i) = element_at t constant to n a i
+element_of t (Located constant to (Many n a)) (Ptr c b other) = Err Stuck
 
 -- ---- what is read, and pointers
 
@@ -99,16 +99,16 @@ of_scalar t k v = if can_hold (table_of t) (Scalar k) v then Ok (Num (Scalar k) 
 -- the value of a place, of the exact scalar that is laid out there (6.3.2.1, 6.5)
 abbrev pub read : Target → CState → Lvalue → Result CValue Trouble
 read t s (Known v) = alive s v
-read t s (Part constant to (Leaf k)) = on_ok (answered ((memory_of t).read s.objects to.object (to.offset, k))) (of_scalar t k)
-read t s (Part constant to (Many n a)) = Err Stuck
-read t s (Part constant to (Struct k r)) = Err Stuck
+read t s (Located constant to (Leaf k)) = on_ok (answered ((memory_of t).read s.objects to.object (to.offset, k))) (of_scalar t k)
+read t s (Located constant to (Many n a)) = Err Stuck
+read t s (Located constant to (Struct k r)) = Err Stuck
 
 -- `&` of an object or its part, save an array (6.5.3.2)
 abbrev pub address_of : Lvalue → Result CValue Trouble
 address_of (Known v) = Err Stuck
-address_of (Part constant to (Leaf k)) = Ok (Ptr constant (base.Scalar k) to)
-address_of (Part constant to (Many n a)) = Err Stuck
-address_of (Part constant to (Struct k r)) = Ok (Ptr constant (base.Struct k) to)
+address_of (Located constant to (Leaf k)) = Ok (Ptr constant (base.Scalar k) to)
+address_of (Located constant to (Many n a)) = Err Stuck
+address_of (Located constant to (Struct k r)) = Ok (Ptr constant (base.Struct k) to)
 
 -- A cast (6.5.4): of a number as by assignment; of a pointer to another base, `const` or not, only where such a type begins. This is
 -- stricter than 6.3.2.3, which asks for alignment.

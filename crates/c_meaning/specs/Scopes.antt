@@ -13,7 +13,7 @@ value_in (Some (Naming object base)) = None
 
 -- the value that a name holds in a state, whose latest declaration of the name counts (6.2.1)
 abbrev pub name_value : CState → Name → Option CValue
-name_value s x = value_in (named s.own x)
+name_value s x = value_in (named s.frames.own x)
 
 -- ---- static scopes
 
@@ -29,7 +29,7 @@ file_entity o = (o.name, ObjectName o.constant o.base)
 
 -- the declarations in scope: those of the function, and of file scope
 abbrev pub declarations : Program → CState → List (Name × Entity)
-declarations p s = map local_entity s.own ++ map file_entity p.unit.objects
+declarations p s = map local_entity s.frames.own ++ map file_entity p.unit.objects
 
 abbrev pub scope_of : Program → CState → Scope
 scope_of p s = declared (declarations p s)

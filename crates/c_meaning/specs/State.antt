@@ -3,7 +3,7 @@ use Rattle.std.specs.Prelude.{ℕ, suc, ℤ, List, [], ◌∷◌, length, Bool, 
 use Rattle.run_records.specs.declared.AreaCells.{AreaCells}
 use Rattle.run_records.specs.declared.Reason.TheVariants.{NoValue}
 use Rattle.step_semantics.specs.Steps.{Halt, NoMeaning, Part}
-use Rattle.step_semantics.specs.Frames.{in_frame}
+use Rattle.step_semantics.specs.Frames.{Frames, push_frame, pop_frame, in_frame}
 use Rattle.type_trees.specs.Layouts.{lay}
 use Rattle.c_memory.specs.Access.{Fault}
 use Rattle.c_memory.specs.Blocks as blocks
@@ -52,16 +52,15 @@ pub data Slot : Type 0 where
 abbrev pub Frame : Type 0
 Frame = List (Name × Slot)
 
--- The frame of the function that runs, and those of the functions that wait for it, the nearest first; and the objects, of which those
--- of file scope come first, in the order of the unit.
+-- The frame of the function that runs and those of the functions that wait for it; and the objects, of which those of file scope come
+-- first, in the order of the unit.
 pub record CState : Type 0 where
-  pub own : Frame
-  pub callers : List Frame
+  pub frames : Frames Frame
   pub objects : CObjects
 
 -- between entry calls, where there are no objects
 abbrev pub at_rest : CState
-at_rest = record { own = []; callers = []; objects = [] }
+at_rest = record { frames = record { own = []; callers = [] }; objects = [] }
 
 -- whether an object is still there (6.2.4)
 abbrev pub lives : CState → ℕ → Bool
@@ -89,30 +88,33 @@ seen p s = seen_from p.target p.unit.structs s 0 p.unit.objects
 
 -- ---- names and objects come and go
 
+-- a declaration's name comes into scope (6.2.1)
+abbrev pub with_name : Name → Slot → CState → CState
+with_name x slot s = record s { frames = record s.frames { own = (x, slot) ∷ s.frames.own } }
+
 -- every name that comes to hold a value by a declaration (6.7)
 abbrev pub declare : Name → CValue → CState → CState
-declare x v s = record s { own = (x, Holding v) ∷ s.own }
+declare x v s = with_name x (Holding v) s
 
 -- the name of the next object, whose type is of this base, once it is made
 abbrev pub declare_object : Name → CBase → CObjects → CState → CState
-declare_object x b made s = record s { own = (x, Naming (length s.objects) b) ∷ s.own; objects = made }
+declare_object x b made s = with_name x (Naming (length s.objects) b) (record s { objects = made })
 
 -- a name and an object end with the block in which they were declared (6.2.1, 6.2.4)
 abbrev pub leave : CState → CState → CState
-leave before after = record after { own = before.own; objects = blocks.leave (length before.objects) after.objects }
+leave before after = record {
+  frames = record after.frames { own = before.frames.own };
+  objects = blocks.leave (length before.objects) after.objects;
+}
 
 -- a function is entered with its parameters, and no name of its caller is in scope there
 abbrev pub enter : Frame → CState → CState
-enter params s = record s { own = params; callers = s.own ∷ s.callers }
+enter params s = record s { frames = push_frame params s.frames }
 
 -- and left for the nearest of those that wait
-abbrev pub returned_to : List Frame → CState → CState
-returned_to [] s = s
-returned_to (caller ∷ callers) s = record s { own = caller; callers = callers }
-
-abbrev pub pop : CState → CState
-pop s = returned_to s.callers s
+abbrev pub back : CState → CState
+back s = record s { frames = pop_frame s.frames }
 
 -- a part in a frame of its own, with its parameters
 abbrev pub in_own_frame : {A : Type 0} → Frame → Part CState A → Part CState A
-in_own_frame params part = in_frame (enter params) pop part
+in_own_frame params part = in_frame (enter params) back part

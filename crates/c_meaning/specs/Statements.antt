@@ -13,7 +13,7 @@ use Rattle.c_ast.specs.Syntax.{Name, Expr, FunctionCall, Stmt, Const, ConstCall,
 use Rattle.c_meaning.specs.Values.{Trouble, Undefined, Stuck, CValue, is_true, on_ok, as_assigned}
 use Rattle.c_meaning.specs.Memory.{CObjects, memory_of, answered, unless_refused}
 use Rattle.c_meaning.specs.State.{Program, CState, declare, declare_object, leave}
-use Rattle.c_meaning.specs.Places.{Lvalue, Known, Part as At}
+use Rattle.c_meaning.specs.Places.{Lvalue, Known, Located}
 use Rattle.c_meaning.specs.Expressions.{eval, eval_place, eval_all}
 use Rattle.c_meaning.specs.Initializers.{eval_init, as_number, made_with}
 use Rattle.c_meaning.specs.Calls.{troubled, given, CallResult, Nothing, Missing, Gave, Calls, call}
@@ -50,11 +50,11 @@ object_with p x b values = by_state (λ s. given p (made_with p.target (tree p.u
 -- An assignment to the scalar at a place (6.5.16.1): what may not be written is known before the value is converted.
 abbrev pub stored : Target → CState → Lvalue → CValue → Result CObjects Trouble
 stored t s (Known u) v = Err Stuck
-stored t s (At constant to (Leaf k)) v =
+stored t s (Located constant to (Leaf k)) v =
     unless_refused ((memory_of t).refuses s.objects to.object (to.offset, k))
     (on_ok (as_number t k v) (λ n. answered ((memory_of t).write s.objects to.object (to.offset, k) n)))
-stored t s (At constant to (Many n a)) v = Err Stuck
-stored t s (At constant to (Struct k r)) v = Err Stuck
+stored t s (Located constant to (Many n a)) v = Err Stuck
+stored t s (Located constant to (Struct k r)) v = Err Stuck
 
 abbrev pub assign : Program → Lvalue → CValue → Part CState (Control (Option CValue))
 assign p l v = by_state (λ s. given p (stored p.target s l v) (λ objects. change Falls (λ u. record u { objects = objects })))

@@ -25,8 +25,7 @@ nothing = program_of (record { structs = []; externs = []; objects = []; functio
 -- x holds 200 as uint8_t, and so does y in the block around, where x holds 7
 abbrev pub inside : CState
 inside = record {
-  own = (codes "iv_x", Holding (exact U8 (pos 200))) ∷ (codes "iv_y", Holding (exact U8 (pos 200))) ∷ (codes "iv_x", Holding (exact U8 (pos 7))) ∷ [];
-  callers = [];
+  frames = record { own = (codes "iv_x", Holding (exact U8 (pos 200))) ∷ (codes "iv_y", Holding (exact U8 (pos 200))) ∷ (codes "iv_x", Holding (exact U8 (pos 7))) ∷ []; callers = [] };
   objects = [];
 }
 

@@ -2,7 +2,8 @@
 
 ghost use Rattle.std.specs.Prelude.{◌≡◌, [], ◌++◌, map, IfOk, MatchOption, None, Some, true, false};
 ghost use Rattle.iv_words.specs.Words.{same_word};
-ghost use Rattle.c_ast.specs.Structs.{base_tree, times, row_of, struct_of, table, look};
+ghost use Rattle.c_ast.specs.Structs.{base_tree, times, row_of, struct_of, table};
+ghost use Rattle.c_ast.specs.Names.{named};
 ghost use Rattle.c_objects.specs.Shapes.{tree_of, field_of, row_from, type_tree, base_of};
 
 use crate::shape::{Base, Field, ObjectType, Shape};
@@ -21,7 +22,7 @@ fn named<'a>(field: &'a Field, w: &Word) -> Option<&'a Shape>
 
 /// The first type of a name.
 pub fn find_type<'a>(types: &'a [Field], w: &Word) -> Option<&'a Shape>
-    ensures { MatchOption result (look (map field_of types.now) w.now ≡ None) (λ a. look (map field_of types.now) w.now ≡ Some (tree_of a.now)) }
+    ensures { MatchOption result (named (map field_of types.now) w.now ≡ None) (λ a. named (map field_of types.now) w.now ≡ Some (tree_of a.now)) }
 {
     for field in types {
         match named(field, w) {

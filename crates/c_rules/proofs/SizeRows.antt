@@ -13,7 +13,7 @@ use Rattle.c_ast.specs.declared.unit.CMember.{CMember}
 use Rattle.c_ast.specs.declared.unit.CStruct.{CStruct}
 use Rattle.c_ast.specs.Names.{named}
 use Rattle.c_ast.specs.Scalars.{metric_of}
-use Rattle.c_ast.specs.Structs.{CTree, look, or_empty, base_tree, times, row_of, struct_of, table, tree}
+use Rattle.c_ast.specs.Structs.{CTree, or_empty, base_tree, times, row_of, struct_of, table, tree}
 use Rattle.c_ast.specs.Syntax.{Name}
 use Rattle.c_ast.specs.Targets.{table_of}
 use Rattle.c_ast.proofs.Scalars.{types_have_alignments}
@@ -76,12 +76,12 @@ sizes_push target ss s = ap (map (entry_size target)) (table_push [] ss s) ∙ m
 
 -- ---- what is found
 
-named_mapped : (target : Target) (tbl : List (Name × CTree)) (w : Name) → named (map (entry_size target) tbl) w ≡ option_map (tree_size target) (look tbl w)
+named_mapped : (target : Target) (tbl : List (Name × CTree)) (w : Name) → named (map (entry_size target) tbl) w ≡ option_map (tree_size target) (named tbl w)
 named_mapped target [] w = refl
 named_mapped target (x ∷ tbl) w = go (same_word x.0 w) (named_mapped target tbl w)
   where
-    go : (b : Bool) → named (map (entry_size target) tbl) w ≡ option_map (tree_size target) (look tbl w)
-        → (if b then Some (tree_size target x.1) else named (map (entry_size target) tbl) w) ≡ option_map (tree_size target) (if b then Some x.1 else look tbl w)
+    go : (b : Bool) → named (map (entry_size target) tbl) w ≡ option_map (tree_size target) (named tbl w)
+        → (if b then Some (tree_size target x.1) else named (map (entry_size target) tbl) w) ≡ option_map (tree_size target) (if b then Some x.1 else named tbl w)
     go true e = refl
     go false e = e
 
@@ -91,7 +91,7 @@ found_is target w (Some a) = refl
 
 pub base_is : (target : Target) (ss : List CStruct) (b : CBase) → base_size target (sizes_of target ss) b ≡ tree_size target (tree ss b)
 base_is target ss (Scalar s) = refl
-base_is target ss (Named w) = ap or_nothing (named_mapped target (table [] ss) w) ∙ found_is target w (look (table [] ss) w)
+base_is target ss (Named w) = ap or_nothing (named_mapped target (table [] ss) w) ∙ found_is target w (named (table [] ss) w)
 
 pub times_is : (target : Target) (n : Option ℕ) (a : CTree) → sized_times n (tree_size target a) ≡ tree_size target (times n a)
 times_is target None a = refl

@@ -70,7 +70,7 @@ program = program_of (record { structs = []; externs = []; objects = []; functio
 
 -- a state in which a and b hold these numbers
 abbrev holding : ℤ → ℤ → CState
-holding x y = record { own = (codes "a", Holding (Num (of_kind I32) x)) ∷ (codes "b", Holding (Num (of_kind I32) y)) ∷ []; callers = []; objects = [] }
+holding x y = record { frames = record { own = (codes "a", Holding (Num (of_kind I32) x)) ∷ (codes "b", Holding (Num (of_kind I32) y)) ∷ []; callers = [] }; objects = [] }
 
 abbrev least : ℤ
 least = pos 0 -ℤ pos 2147483648

@@ -1,7 +1,7 @@
 ghost use Rattle.std.specs.Prelude.{◌≡◌, [], ◌∷◌, codes, IfOk};
 ghost use Rattle.c_ast.specs.LayoutExamples.{one, int_of, pair};
 
-use crate::{
+use c_ast::{
     Arith, CBase, CBinary, CExpr, CFunction, CKind, CMember, CParam, CPlace, CScalar, CStruct,
     CType, CUnit, Suffix, Target, align_of, c_exports, common, convert, offset_of, promote,
     size_of,

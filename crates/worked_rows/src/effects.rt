@@ -1,4 +1,4 @@
-use crate::{Allowed, Effects, Narrowing, effects_of, in_loop, narrow};
+use alloc_effects::{Allowed, Effects, Narrowing, effects_of, in_loop, narrow};
 use iv_words::{Memory, Seq, Span};
 use ivory_tree::{Block, Stmt, StmtKind};
 use std::alloc::Global;

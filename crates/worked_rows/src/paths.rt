@@ -1,4 +1,4 @@
-use crate::{falls_through, first_unreached};
+use control_effects::{falls_through, first_unreached};
 use iv_words::{Memory, Seq, Span};
 use ivory_tree::{Block, Stmt, StmtKind};
 use std::alloc::Global;

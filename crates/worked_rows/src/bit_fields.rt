@@ -1,7 +1,7 @@
 ghost use Rattle.std.specs.Prelude.{IfOk, IsTrue};
 ghost use Rattle.bit_data.specs.Layouts.{has_its_bit, IsLayout};
 
-use crate::{BitLayout, FieldWish, LayoutFault, TooWide, check_layout, field_of, with_field};
+use bit_data::{BitLayout, FieldWish, LayoutFault, TooWide, check_layout, field_of, with_field};
 use int_ops::fits;
 use iv_words::{IntKind, Memory, Seq, Word};
 use std::alloc::Global;

@@ -1,4 +1,4 @@
-use crate::site_table;
+use contract_checks::site_table;
 use area_types::StructTable;
 use core_tree::{Core, CoreProc};
 use iv_words::{Memory, Seq, Word};

@@ -3,12 +3,12 @@ ghost use Rattle.area_types.specs.Syntax as syntax;
 ghost use Rattle.area_types.specs.View.{type_of};
 ghost use Rattle.region_check.specs.Found.{is_numbered};
 
-use crate::{RegionFault, apply_subst, escapes, match_regions};
+use region_check::{RegionFault, apply_subst, escapes, match_regions};
 use area_types::{Area, RefType, Region, ValueType};
 use iv_words::{Memory, Seq};
 use std::alloc::Global;
 
-#[tactic(auto, using(crate::proofs::Apart::ref_is))]
+#[tactic(auto, using(region_check::proofs::Apart::ref_is))]
 fn reference(constant: bool, region: Region, number: u32) -> ValueType
     ensures { type_of result ≡ syntax.Ref constant region (syntax.Struct number) }
 {

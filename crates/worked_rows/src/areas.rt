@@ -2,7 +2,7 @@ ghost use Rattle.std.specs.Prelude.{ℕ, IfOk, IsTrue};
 ghost use Rattle.area_types.specs.Tables.{is_area};
 ghost use Rattle.area_types.specs.View.{area_of, shape_of};
 
-use crate::{
+use area_types::{
     Area, AreaFault, AreaShape, FieldDef, RefType, Region, StructDef, StructTable, ValueType,
     cell_at, cells, intern, nodes,
 };

@@ -1,4 +1,4 @@
-use crate::{Check, Core, CoreExpr, CoreKind, CoreProc, CoreStmt, SiteKind, exports_of};
+use core_tree::{Check, Core, CoreExpr, CoreKind, CoreProc, CoreStmt, SiteKind, exports_of};
 use area_types::{StructTable, ValueType};
 use iv_words::{Memory, Seq, Span, Word};
 use std::alloc::Global;

@@ -1,4 +1,4 @@
-use crate::{in_range, to_index, wrap_index};
+use index_types::{in_range, to_index, wrap_index};
 
 #[test]
 fn an_index_is_below_its_length(rt: HostRuntime) {

@@ -1,6 +1,6 @@
 //! Texts with their tokens or their fault, each with its place.
 
-use super::*;
+use ivory_lexer::{Key, Mark, SOURCE_LIMIT, TokenKind, lex};
 use iv_words::Span;
 use std::alloc::Global;
 use std::fmt::Write;

@@ -1,7 +1,7 @@
 ghost use Rattle.std.specs.Prelude.{◌≤◌, length};
 ghost use Rattle.iv_script.specs.ScriptText.{script_limit};
 
-use crate::{
+use iv_script::{
     AreaCells, End, Event, Export, Outcome, Piece, Plain, Reason, ScriptError, ScriptFault,
     ScriptWhy, fit_script, read_script, write_report,
 };

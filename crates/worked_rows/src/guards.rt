@@ -5,7 +5,7 @@ ghost use Rattle.c_ast.specs.declared.Target.TheVariants.{T32};
 ghost use Rattle.overflow_checks.specs.Checks as checks;
 ghost use Rattle.overflow_checks.specs.Contract.{IsOperand};
 
-use crate::{compute, guard};
+use overflow_checks::{compute, guard};
 use c_ast::{CBinary, CExpr, CPlace, CUnary, Suffix, Target};
 use int_ops::{Op, Stop, allowed, fits};
 use iv_words::{IntKind, Memory, Word};

@@ -1,4 +1,4 @@
-use crate::{
+use c_objects::{
     Base, Fault, ObjectType, Objects, Refusal, find_type, lay_type, make_types, size_of, type_of,
 };
 use c_ast::{CBase, CMember, CScalar, CStruct, Target};

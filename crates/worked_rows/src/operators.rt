@@ -1,4 +1,4 @@
-use super::*;
+use int_ops::{Op, Range, Stop, allowed, apply, fits};
 use iv_words::IntKind;
 use std::process::Abort;
 

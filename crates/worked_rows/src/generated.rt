@@ -1,4 +1,4 @@
-use crate::generate;
+use generated_module::generate;
 use iv_words::Memory;
 
 const OF_TWO: &str = "module big;

@@ -1,1 +1,5 @@
 pub mod Frames
+pub mod Exits
+pub mod Meanings
+pub mod Members
+pub mod Arguments

@@ -13,7 +13,7 @@ use Rattle.c_expressions.specs.declared.lvalues.Lvalue.TheVariants.{Known, Locat
 
 abbrev pub lvalue_of : Lvalue → meaning.Lvalue
 lvalue_of (Known v) = meaning.Known (value_of v)
-lvalue_of (Located constant to part) = meaning.Part constant (address_of to) (type_tree part)
+lvalue_of (Located constant to part) = meaning.Located constant (address_of to) (type_tree part)
 
 -- Want of memory says nothing: an offset past what the code's numbers hold is no exception.
 abbrev pub Excused : Type 0

@@ -22,8 +22,8 @@ abbrev pub frame_of : List Local → meaning.Frame
 frame_of names = reverse (map local_of names)
 
 abbrev pub state_of : State → meaning.CState
-state_of s = record { own = frame_of s.own; callers = reverse (map frame_of s.callers); objects = objects_of s.objects }
+state_of s = record { frames = record { own = frame_of s.own; callers = reverse (map frame_of s.callers) }; objects = objects_of s.objects }
 
 -- the names of the function that runs
 abbrev pub own_of : meaning.CState → meaning.Frame
-own_of s = s.own
+own_of s = s.frames.own

@@ -65,7 +65,8 @@ impl<'a> State<'a> {
     {
         let slot = Slot::Naming(self.objects.len(), base);
         let made = program.type_of(base);
-        self.objects.initialize(alloc, program.target(), made, false, values)?;
+        self.objects
+            .initialize(alloc, program.target(), made, false, values)?;
         self.own.push(Local { name, slot })
     }
 
@@ -79,15 +80,15 @@ impl<'a> State<'a> {
 
     /// A function is entered with its parameters, the last of which stands first.
     pub fn enter(&mut self, params: Seq<Local<'a>>) -> Result<(), Memory>
-        ensures { OnOk result (state_of self.new ≡ meaning.enter (frame_of params) (state_of self.old)) }
+        ensures { OnOk result (state_of self.new ≡ meaning.enter (frame_of params.entry) (state_of self.old)) }
     {
         let caller = mem::replace(&mut self.own, params);
         self.callers.push(caller)
     }
 
     /// And left for the nearest of those that wait.
-    pub fn pop(&mut self)
-        ensures { state_of self.new ≡ meaning.pop (state_of self.old) }
+    pub fn back(&mut self)
+        ensures { state_of self.new ≡ meaning.back (state_of self.old) }
     {
         if let Some(caller) = self.callers.pop() {
             self.own = caller;

@@ -3,9 +3,14 @@
 
 mod changes;
 mod evaluation;
+mod following;
+mod form;
 mod lvalues;
+mod names;
 mod program;
 mod state;
+mod types;
+mod typing;
 
 pub use evaluation::{eval, eval_all, eval_place};
 pub use lvalues::{Lvalue, trouble_of};

@@ -15,8 +15,10 @@ use Rattle.bit_data.specs.declared.layout.BitLayout.{BitLayout}
 use Rattle.core_tree.specs.declared.check.SiteKind.{SiteKind}
 use Rattle.core_tree.specs.declared.check.Check.{Check}
 use Rattle.core_tree.specs.Syntax.{Label, ExprCore, Number, Outcome, Local, AreaName, Cast, ToIndex, WrapIndex, MakeBits, Raw, SetField, Prefix, Binary, Field, Element, Cond, Whole, AreaCore, type_of}
-use Rattle.core_tree.specs.Types.{is_type, is_reference, is_plain, is_value}
-use Rattle.core_tree.specs.Operators.{is_integer, is_index_type, prefix_is_for, prefix_checks, is_for, result_of, checks_for, cast_checks, index_checks, field_type, set_checks}
+use Rattle.core_tree.specs.Types.{is_type, is_value}
+use Rattle.source_types.specs.Operators.{is_for, prefix_is_for}
+use Rattle.source_types.specs.Values.{is_index_type, is_integer, is_plain, is_reference}
+use Rattle.core_tree.specs.Operators.{prefix_checks, result_of, checks_for, cast_checks, index_checks, field_type, set_checks}
 use Rattle.core_tree.specs.Settled.{is_settled, are_settled, is_operated}
 use Rattle.core_tree.specs.Environments.{Env, bit_field, struct_field}
 

@@ -1,5 +1,5 @@
 -- What operators give, and their checks in order. For which types each is stands in the table of source_types.
-use Rattle.std.specs.Prelude.{ℕ, nat_eq, ◌||◌, if◌then◌else◌, List, [], ◌∷◌}
+use Rattle.std.specs.Prelude.{ℕ, nat_eq, Bool, true, false, ◌||◌, if◌then◌else◌, List, [], ◌∷◌}
 use Rattle.iv_words.specs.declared.kind.IntKind.{IntKind}
 use Rattle.iv_words.specs.Kinds.{width}
 use Rattle.ivory_tree.specs.declared.expr.PrefixOp.{PrefixOp}
@@ -11,63 +11,68 @@ use Rattle.bit_data.specs.declared.layout.FieldBits.{FieldBits}
 use Rattle.core_tree.specs.declared.check.SiteKind.{SiteKind}
 use Rattle.core_tree.specs.declared.check.SiteKind.TheVariants.{Overflow, DivZero, Shift, Index, Cast}
 use Rattle.core_tree.specs.Types.{has_values_of, has_indices_of}
-use Rattle.source_types.specs.Operators.{gives_truth}
+use Rattle.source_types.specs.Operators.{is_comparison}
 use Rattle.source_types.specs.Values.{is_signed_integer, least_unsigned}
 
 -- ---- prefixes other than `*`
 
-abbrev pub prefix_checks : PrefixOp → List SiteKind
-prefix_checks Neg = Overflow ∷ []
-prefix_checks Not = []
-prefix_checks Flip = []
-prefix_checks Deref = []
+abbrev pub prefix_sites : PrefixOp → List SiteKind
+prefix_sites Neg = Overflow ∷ []
+prefix_sites Not = []
+prefix_sites Flip = []
+prefix_sites Deref = []
 
 -- ---- operators between two operands of one type
 
--- a comparison gives a truth, and so do `||` and `&&`
-abbrev pub result_of : BinOp → ValueType → ValueType
-result_of op ty = if gives_truth op then Truth else ty
+-- a comparison gives a truth; so do `||` and `&&`, whose operands are truths
+abbrev pub result_type : BinOp → ValueType → ValueType
+result_type op ty = if is_comparison op then Truth else ty
 
 -- the quotient of the least number by -1 does not fit
-abbrev pub division_checks : ValueType → List SiteKind
-division_checks ty = if is_signed_integer ty then DivZero ∷ Overflow ∷ [] else DivZero ∷ []
+abbrev pub divisions : (signed : Bool) → List SiteKind
+divisions true = DivZero ∷ Overflow ∷ []
+divisions false = DivZero ∷ []
 
-abbrev pub checks_for : BinOp → ValueType → List SiteKind
-checks_for Add ty = Overflow ∷ []
-checks_for Sub ty = Overflow ∷ []
-checks_for Mul ty = Overflow ∷ []
-checks_for Div ty = division_checks ty
-checks_for Rem ty = division_checks ty
-checks_for Shl ty = Shift ∷ []
-checks_for Shr ty = Shift ∷ []
-checks_for OrElse ty = []
-checks_for AndAlso ty = []
-checks_for Or ty = []
-checks_for Xor ty = []
-checks_for And ty = []
-checks_for Eq ty = []
-checks_for Ne ty = []
-checks_for Lt ty = []
-checks_for Le ty = []
-checks_for Gt ty = []
-checks_for Ge ty = []
-checks_for WrapAdd ty = []
-checks_for WrapSub ty = []
-checks_for WrapMul ty = []
+abbrev pub operator_sites : BinOp → ValueType → List SiteKind
+operator_sites Add ty = Overflow ∷ []
+operator_sites Sub ty = Overflow ∷ []
+operator_sites Mul ty = Overflow ∷ []
+operator_sites Div ty = divisions (is_signed_integer ty)
+operator_sites Rem ty = divisions (is_signed_integer ty)
+operator_sites Shl ty = Shift ∷ []
+operator_sites Shr ty = Shift ∷ []
+operator_sites OrElse ty = []
+operator_sites AndAlso ty = []
+operator_sites Or ty = []
+operator_sites Xor ty = []
+operator_sites And ty = []
+operator_sites Eq ty = []
+operator_sites Ne ty = []
+operator_sites Lt ty = []
+operator_sites Le ty = []
+operator_sites Gt ty = []
+operator_sites Ge ty = []
+operator_sites WrapAdd ty = []
+operator_sites WrapSub ty = []
+operator_sites WrapMul ty = []
 
 -- ---- conversions and bit data
 
+abbrev pub unless : Bool → SiteKind → List SiteKind
+unless true kind = []
+unless false kind = kind ∷ []
+
 -- of `T(e)`
-abbrev pub cast_checks : IntKind → ValueType → List SiteKind
-cast_checks kind from = if has_values_of kind from then [] else Cast ∷ []
+abbrev pub cast_sites : IntKind → ValueType → List SiteKind
+cast_sites kind from = unless (has_values_of kind from) Cast
 
 -- of `toix(N, e)`
-abbrev pub index_checks : ℕ → IntKind → List SiteKind
-index_checks n from = if has_indices_of n from then [] else Index ∷ []
+abbrev pub indexing_sites : ℕ → IntKind → List SiteKind
+indexing_sites n from = unless (has_indices_of n from) Index
 
 abbrev pub field_type : FieldBits → ValueType
 field_type f = if f.truth then Truth else Int (least_unsigned f.width)
 
 -- of `set(e, f, value)`
-abbrev pub set_checks : FieldBits → List SiteKind
-set_checks f = if f.truth || nat_eq f.width (width (least_unsigned f.width)) then [] else Cast ∷ []
+abbrev pub set_sites : FieldBits → List SiteKind
+set_sites f = unless (f.truth || nat_eq f.width (width (least_unsigned f.width))) Cast

@@ -21,10 +21,11 @@ use Rattle.source_types.specs.Parts.{length_behind, word_type, bit_field_named, 
 use Rattle.rule_faults.specs.Types.{own_type}
 use Rattle.typing_rules.specs.Environments.{Env, Local, area_number}
 use Rattle.typing_rules.specs.Contexts.{context_of}
-use Rattle.typing_rules.specs.Sites.{Labelled, unchecked, operator_sites, prefix_sites, cast_sites, index_sites, first_token, name_bytes}
+use Rattle.core_tree.specs.Operators.{operator_sites, prefix_sites, cast_sites, result_type}
+use Rattle.typing_rules.specs.Sites.{Labelled, unchecked, index_sites, first_token, name_bytes}
 use Rattle.typing_rules.specs.Wholes.{is_chain_prefix, is_postfix_prefix}
 use Rattle.typing_rules.specs.Expressions as rule
-use Rattle.typing_rules.specs.Expressions.{Has, Under, result_type, chain, field_of, element_of}
+use Rattle.typing_rules.specs.Expressions.{Has, Under, chain, field_of, element_of}
 use Rattle.typing_rules.specs.OtherChecks.{label_by, expr_by}
 use Rattle.typing_rules.specs.ExpressionCores.{checks_at, bare, type_or, number_or, length_or, own, name_core, bits_number, new_type, new_sites, number_in, beside, operand, operated, core_of}
 use Rattle.typing_laws.proofs.TypesAgree.{has_settled, typed, under_typed}

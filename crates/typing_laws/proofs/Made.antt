@@ -16,9 +16,10 @@ use Rattle.source_types.specs.Operators.{is_comparison}
 use Rattle.source_types.specs.Values.{least_unsigned, is_reference}
 use Rattle.source_types.specs.Environments.{Earlier, AreaDeclared, Callee}
 use Rattle.source_types.specs.Parts.{stored_type, field_type, field_named, word_type, bit_field_type, bit_field_named}
+use Rattle.core_tree.specs.Operators.{result_type}
 use Rattle.typing_rules.specs.Environments.{Env, Local}
 use Rattle.typing_rules.specs.Expressions as rule
-use Rattle.typing_rules.specs.Expressions.{Has, Under, result_type}
+use Rattle.typing_rules.specs.Expressions.{Has, Under}
 use Rattle.typing_laws.proofs.Lookups.{some_same, mapped, bound}
 
 -- ---- what is made

@@ -27,7 +27,9 @@ use Rattle.core_tree.specs.declared.SiteKind.TheVariants as site
 use Rattle.source_types.specs.Environments.{Earlier}
 use Rattle.source_types.specs.Values.{is_signed_integer}
 use Rattle.typing_rules.specs.Environments.{Env, next}
-use Rattle.typing_rules.specs.Sites.{Labelled, unchecked, divisions, operator_sites, prefix_sites, unless, only_values_of, only_below, first_token}
+use Rattle.core_tree.specs.Types.{has_indices_of, has_values_of}
+use Rattle.core_tree.specs.Operators.{divisions, operator_sites, prefix_sites, unless}
+use Rattle.typing_rules.specs.Sites.{Labelled, unchecked, first_token, index_sites}
 use Rattle.typing_rules.specs.Wholes.{part, is_chain_prefix, is_postfix_prefix}
 use Rattle.typing_rules.specs.Expressions as rule
 use Rattle.typing_rules.specs.Expressions.{Has, Under, chain, field_of, element_of}
@@ -168,6 +170,13 @@ orderly_unless : (b : Bool) (k : SiteKind) → Orderly (unless b k)
 orderly_unless true k = tt
 orderly_unless false k = tt
 
+orderly_index : (n : ℕ) (t : ValueType) → Orderly (index_sites n t)
+orderly_index n (types.Int kind) = orderly_unless (has_indices_of n kind) site.Index
+orderly_index n types.Truth = tt
+orderly_index n (types.Ix m) = tt
+orderly_index n (types.Bits k) = tt
+orderly_index n (types.Ref constant region area) = tt
+
 same_place : (c d : Check) → c.span.start ≡ d.span.start → is_made_before c.kind d.kind ≡ true → stands_before c d ≡ true
 same_place c d h k = go (nat_lt c.span.start d.span.start)
   where
@@ -297,10 +306,10 @@ mutual
   has_inside (rule.local {s = s} h) f p = lt_is_le s.start s.end p.0
   has_inside (rule.area_name {s = s} n h g k) f p = lt_is_le s.start s.end p.0
   has_inside (rule.cast {s = s} {kind = kind} {e = e} {c = c} {label = label} h i l) f p =
-      token_then s (expr_node e) label.checks (expr_checks c) p (before_of s e f.0) (label_rising l (orderly_unless (only_values_of kind (core.type_of c)) site.Cast) (s.start + 1) (lt_next s.start)) (has_inside h f.1 p.1.1)
+      token_then s (expr_node e) label.checks (expr_checks c) p (before_of s e f.0) (label_rising l (orderly_unless (has_values_of kind (core.type_of c)) site.Cast) (s.start + 1) (lt_next s.start)) (has_inside h f.1 p.1.1)
   has_inside (rule.cast_literal {s = s} {e = e} {c = c} n u) f p = one_inside s (expr_node e) (expr_checks c) p (under_inside u f.1 p.1.1)
   has_inside (rule.to_index {s = s} {n = n} {e = e} {c = c} {label = label} k h i l) f p =
-      token_then s (expr_node e) label.checks (expr_checks c) p (before_of s e f.0) (label_rising l (orderly_unless (only_below n (core.type_of c)) site.Index) (s.start + 1) (lt_next s.start)) (has_inside h f.1 p.1.1)
+      token_then s (expr_node e) label.checks (expr_checks c) p (before_of s e f.0) (label_rising l (orderly_index n (core.type_of c)) (s.start + 1) (lt_next s.start)) (has_inside h f.1 p.1.1)
   has_inside (rule.wrap_index {s = s} {e = e} {c = c} k h i) f p = one_inside s (expr_node e) (expr_checks c) p (has_inside h f p.1.1)
   has_inside (rule.make_bits {s = s} {e = e} {c = c} n v u) f p = one_inside s (expr_node e) (expr_checks c) p (under_inside u f p.1.1)
   has_inside (rule.raw {s = s} {e = e} {c = c} h v) f p = one_inside s (expr_node e) (expr_checks c) p (has_inside h f p.1.1)

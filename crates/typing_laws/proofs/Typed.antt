@@ -38,9 +38,10 @@ use Rattle.rule_faults.specs.ExpressionRows.{expr_row}
 use Rattle.rule_faults.specs.FirstFault.{first_of}
 use Rattle.typing_rules.specs.Environments.{Env, Local, local_named}
 use Rattle.typing_rules.specs.Contexts.{context_of}
-use Rattle.typing_rules.specs.Sites.{Labelled, unchecked, operator_sites, prefix_sites, cast_sites, index_sites, set_sites, first_token, name_bytes}
+use Rattle.core_tree.specs.Operators.{operator_sites, prefix_sites, cast_sites, result_type}
+use Rattle.typing_rules.specs.Sites.{Labelled, unchecked, index_sites, set_sites, first_token, name_bytes}
 use Rattle.typing_rules.specs.Expressions as rule
-use Rattle.typing_rules.specs.Expressions.{Has, Under, result_type, truth_value, chain, field_of, element_of}
+use Rattle.typing_rules.specs.Expressions.{Has, Under, truth_value, chain, field_of, element_of}
 use Rattle.typing_laws.proofs.Lookups.{and_both, neither, mapped, bound}
 use Rattle.typing_laws.proofs.TypesAgree.{typed, under_typed, in_neither, first_left, first_right}
 use Rattle.typing_laws.proofs.Clean.{beside_settled, beside_other, beside_logic, beside_whole, not_logic, or_falses}

@@ -17,10 +17,11 @@ use Rattle.source_types.specs.Settled.{settled}
 use Rattle.rule_faults.specs.Contexts as faults
 use Rattle.rule_faults.specs.Contexts.{Context}
 use Rattle.rule_faults.specs.Types.{type_of, first_type}
+use Rattle.core_tree.specs.Operators.{result_type}
 use Rattle.typing_rules.specs.Environments.{Env, Local}
 use Rattle.typing_rules.specs.Contexts.{local_of, context_of}
 use Rattle.typing_rules.specs.Expressions as rule
-use Rattle.typing_rules.specs.Expressions.{Has, Under, result_type}
+use Rattle.typing_rules.specs.Expressions.{Has, Under}
 use Rattle.typing_laws.specs.TypesAgree.{SettledAgree, WantedAgree}
 
 -- ---- names

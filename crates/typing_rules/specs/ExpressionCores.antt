@@ -21,8 +21,9 @@ use Rattle.source_types.specs.Parts.{length_behind, word_type, bit_field_type, b
 use Rattle.rule_faults.specs.Types.{own_type}
 use Rattle.typing_rules.specs.Environments.{Env, Local, local_named, area_number}
 use Rattle.typing_rules.specs.Contexts.{context_of}
-use Rattle.typing_rules.specs.Sites.{unchecked, operator_sites, prefix_sites, cast_sites, index_sites, set_sites, first_token, name_bytes}
-use Rattle.typing_rules.specs.Expressions.{truth_value, result_type, chain, field_of, element_of}
+use Rattle.core_tree.specs.Operators.{operator_sites, prefix_sites, cast_sites, result_type}
+use Rattle.typing_rules.specs.Sites.{unchecked, index_sites, set_sites, first_token, name_bytes}
+use Rattle.typing_rules.specs.Expressions.{truth_value, chain, field_of, element_of}
 
 -- ---- labels
 

@@ -31,3 +31,9 @@ pub fn statement_examples()
     ensures ends { example.ReturnsEnd }
     ensures back { example.CallsGoBack }
 {}
+
+/// What an import may write.
+#[tactic(auto, using(crate::proofs::Examples::indices_are_not_written))]
+pub fn import_example()
+    ensures { example.IndicesAreNotWritten }
+{}

@@ -1,5 +1,5 @@
 -- The values of the code as those of the meaning of C, and what it is that code gives what the meaning says.
-use Rattle.std.specs.Prelude.{◌≡◌, Option, Some, None, Result, Ok, Err}
+use Rattle.std.specs.Prelude.{◌≡◌, ◌^◌, ◌-ℤ◌, pos, int_lt, IsTrue, Option, Some, None, Result, Ok, Err}
 use Rattle.c_ast.specs.declared.CBinary.{CBinary}
 use Rattle.c_ast.specs.Targets.{TargetTable}
 use Rattle.c_meaning.specs.Values as meaning
@@ -31,12 +31,12 @@ Gives excuse view said (Err Memory) = excuse
 
 -- no excuse
 abbrev pub Never : Type 0
-Never = Unit {0}
+Never = ⊥
 
 -- a number below all that a type holds
 abbrev pub IsBelowAllTypes : CValue → Type 0
-IsBelowAllTypes (meaning.Num kind v) = Unit {0}
-IsBelowAllTypes (meaning.Ptr constant base to) = Unit {0}
+IsBelowAllTypes (meaning.Num kind v) = IsTrue (int_lt v (pos 0 -ℤ pos (2 ^ 64)))
+IsBelowAllTypes (meaning.Ptr constant base to) = ⊥
 
 -- What the left operand of an operator decides, whatever the right one comes to: the value of the whole, or that there is none; else
 -- the right one is evaluated.
@@ -45,4 +45,4 @@ Decides op a (Ok (Some v)) = (t : TargetTable) (b : Result CValue meaning.Troubl
 Decides op a (Ok None) = (t : TargetTable) (b : Result CValue meaning.Trouble) → binary t op a b ≡ on_ok b (λ v. binary t op a (Ok v))
 Decides op a (Err (Undefined reason)) = (t : TargetTable) (b : Result CValue meaning.Trouble) → binary t op a b ≡ Err (meaning.Undefined reason)
 Decides op a (Err Stuck) = (t : TargetTable) (b : Result CValue meaning.Trouble) → binary t op a b ≡ Err meaning.Stuck
-Decides op a (Err Memory) = Unit {0}
+Decides op a (Err Memory) = ⊥

@@ -1,20 +1,28 @@
-//! Conversions of values, and the values of constants. To be written: each answers want of memory so far.
+//! Conversions of values (C99 6.3.1, 6.5.16.1).
 
 ghost use Rattle.std.specs.Prelude.{◌≡◌};
+ghost use Rattle.c_ast.specs.StaticTypes.{same_base};
 ghost use Rattle.c_ast.specs.Targets.{table_of};
 ghost use Rattle.c_meaning.specs.Values as meaning;
 ghost use Rattle.c_objects.specs.Shapes.{base_of};
 ghost use Rattle.c_operators.specs.Values.{value_of, Gives, Never};
 
 use crate::values::{Trouble, Value};
-use c_ast::{CBase, CKind, CType, Suffix, Target};
+use c_ast::{CBase, CKind, CType, Target, convert};
 use c_objects::Base;
+use run_records::Reason;
 
 /// A number converted to a type.
-pub fn as_kind<'a>(_t: Target, _to: CKind, _v: Value<'a>) -> Result<Value<'a>, Trouble>
-    ensures { Gives Never value_of (meaning.as_kind (table_of _t) _to (value_of _v.entry)) result }
+pub fn as_kind<'a>(t: Target, to: CKind, v: Value<'a>) -> Result<Value<'a>, Trouble>
+    ensures { Gives Never value_of (meaning.as_kind (table_of t) to (value_of v.entry)) result }
 {
-    Err(Trouble::Memory)
+    match v {
+        Value::Ptr(_, _, _) => Err(Trouble::Stuck),
+        Value::Num(_, n) => match convert(t, to, n) {
+            Some(w) => Ok(Value::Num(to, w)),
+            None => Err(Trouble::Undefined(Reason::Implementation)),
+        },
+    }
 }
 
 /// The base that a declaration names.
@@ -27,23 +35,44 @@ pub fn base_ref<'a>(b: &'a CBase) -> Base<'a>
     }
 }
 
-/// A pointer given where one to this base is wanted.
-pub fn as_pointer<'a>(_constant: bool, _base: Base<'a>, _v: Value<'a>) -> Result<Value<'a>, Trouble>
-    ensures { Gives Never value_of (meaning.as_pointer _constant (base_of _base.entry) (value_of _v.entry)) result }
+fn is_same_base(a: Base, b: Base) -> bool
+    ensures { result ≡ same_base (base_of a.entry) (base_of b.entry) }
 {
-    Err(Trouble::Memory)
+    match a {
+        Base::Scalar(s) => match b {
+            Base::Scalar(u) => s == u,
+            Base::Struct(_) => false,
+        },
+        Base::Struct(k) => match b {
+            Base::Scalar(_) => false,
+            Base::Struct(l) => *k == *l,
+        },
+    }
+}
+
+/// A pointer given where one to this base is wanted.
+pub fn as_pointer<'a>(constant: bool, base: Base<'a>, v: Value<'a>) -> Result<Value<'a>, Trouble>
+    ensures { Gives Never value_of (meaning.as_pointer constant (base_of base.entry) (value_of v.entry)) result }
+{
+    match v {
+        Value::Num(_, _) => Err(Trouble::Stuck),
+        Value::Ptr(from_constant, from, to) => {
+            if is_same_base(from, base) && (!from_constant || constant) {
+                Ok(Value::Ptr(constant, base, to))
+            } else {
+                Err(Trouble::Stuck)
+            }
+        }
+    }
 }
 
 /// A value converted to a type as by assignment.
-pub fn as_assigned<'a>(_t: Target, _ty: &'a CType, _v: Value<'a>) -> Result<Value<'a>, Trouble>
-    ensures { Gives Never value_of (meaning.as_assigned _t _ty.now (value_of _v.entry)) result }
+pub fn as_assigned<'a>(t: Target, ty: &'a CType, v: Value<'a>) -> Result<Value<'a>, Trouble>
+    ensures { Gives Never value_of (meaning.as_assigned t ty.now (value_of v.entry)) result }
 {
-    Err(Trouble::Memory)
-}
-
-/// The value of a constant.
-pub fn constant_value<'a>(_t: Target, _suffix: Suffix, _v: u64) -> Result<Value<'a>, Trouble>
-    ensures { Gives Never value_of (meaning.constant_value _t _suffix _v) result }
-{
-    Err(Trouble::Memory)
+    match ty {
+        CType::Void => Err(Trouble::Stuck),
+        CType::Value(s) => as_kind(t, CKind::Scalar(*s), v),
+        CType::Pointer(constant, base) => as_pointer(*constant, base_ref(base), v),
+    }
 }

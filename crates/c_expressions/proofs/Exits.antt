@@ -1,5 +1,5 @@
--- What follows from what a part comes to: its trouble, or what is done with its value.
-use Rattle.std.proofs.Common.{◌≡◌, Bool, if◌then◌else◌, Result, Ok, Err, ap, sym, subst}
+-- Forms with several parts: what they come to once the first part is known.
+use Rattle.std.proofs.Common.{◌≡◌, Bool, if◌then◌else◌, Result, Ok, Err}
 use Rattle.c_ast.specs.Syntax.{Expr, Cond}
 use Rattle.c_ast.specs.declared.CBinary.{CBinary}
 use Rattle.c_ast.specs.Targets.{TargetTable, table_of}
@@ -8,21 +8,12 @@ use Rattle.c_meaning.specs.Operators.{binary}
 use Rattle.c_meaning.specs.State.{Program, CState}
 use Rattle.c_meaning.specs.Values as meaning
 use Rattle.c_meaning.specs.Values.{on_ok, is_true}
+use Rattle.c_operators.proofs.Excuses.{passed_on, goes_on}
 use Rattle.c_operators.specs.Values.{value_of, itself, Gives, Decides}
 use Rattle.c_operators.specs.declared.Value.{Value}
 use Rattle.c_operators.specs.declared.Trouble.{Trouble}
 use Rattle.c_operators.specs.declared.Trouble.TheVariants.{Undefined, Stuck, Memory}
 use Rattle.c_expressions.specs.Places.{Excused}
-
-pub fails : {A B C D : Type 0} (view : A → B) (then_view : C → D) (said : Result B meaning.Trouble) (next : B → Result D meaning.Trouble) (trouble : Trouble)
-    → Gives Excused view said (Err trouble) → Gives Excused then_view (on_ok said next) (Err trouble)
-fails view then_view said next (Undefined reason) e = ap (λ x. on_ok x next) e
-fails view then_view said next Stuck e = ap (λ x. on_ok x next) e
-fails view then_view said next Memory e = tt
-
-pub goes : {A B C D : Type 0} (view : A → B) (then_view : C → D) (said : Result B meaning.Trouble) (next : B → Result D meaning.Trouble) (a : A) (r : Result C Trouble)
-    → said ≡ Ok (view a) → Gives Excused then_view (next (view a)) r → Gives Excused then_view (on_ok said next) r
-goes view then_view said next a r e h = subst (λ x. Gives Excused then_view (on_ok x next) r) (sym e) h
 
 -- where nothing else excuses want of memory
 pub excused : {A B : Type 0} (excuse : Type 0) (view : A → B) (said : Result B meaning.Trouble) (r : Result A Trouble) → Gives excuse view said r → Gives Excused view said r
@@ -46,7 +37,7 @@ module _ (p : Program) (s : CState) (test first second : Expr) where
   choice holds = as_common (table_of p.target) (static_type p s (Cond test first second)) (if holds then eval p first s else eval p second s)
 
   pub choice_fails : (trouble : Trouble) → Gives Excused itself (on_ok (eval p test s) is_true) (Err trouble) → Gives Excused value_of (eval p (Cond test first second) s) (Err trouble)
-  choice_fails trouble h = fails itself value_of (on_ok (eval p test s) is_true) choice trouble h
+  choice_fails trouble h = passed_on Excused itself value_of (on_ok (eval p test s) is_true) choice trouble h
 
   pub choice_goes : (holds : Bool) (r : Result Value Trouble) → on_ok (eval p test s) is_true ≡ Ok holds → Gives Excused value_of (choice holds) r → Gives Excused value_of (eval p (Cond test first second) s) r
-  choice_goes holds r e h = goes itself value_of (on_ok (eval p test s) is_true) choice holds r e h
+  choice_goes holds r e h = goes_on Excused itself value_of (on_ok (eval p test s) is_true) choice holds r e h

@@ -2,4 +2,3 @@ pub mod Frames
 pub mod Exits
 pub mod Meanings
 pub mod Members
-pub mod Arguments

@@ -12,7 +12,8 @@ use Rattle.c_expressions.specs.Places.{Excused, lvalue_of}
 use Rattle.c_expressions.specs.Programs.{program_of}
 use Rattle.c_expressions.specs.State.{state_of}
 use Rattle.c_expressions.specs.declared.following.Left.TheVariants.{Settled, Open}
-use Rattle.c_expressions.proofs.Exits.{goes, choice_fails, choice_goes}
+use Rattle.c_operators.proofs.Excuses.{goes_on}
+use Rattle.c_expressions.proofs.Exits.{choice_fails, choice_goes}
 use Rattle.c_expressions.proofs.evaluation.+values.Goals as goal
 
 pub eval-returns-in-Read : goal.eval-returns-in-Read
@@ -109,5 +110,5 @@ eval_place-returns-in-Ok t c =
     let index : Result CValue Trouble = eval p (expr_of c.in-Element.index) s in
     let found : array ≡ Ok (lvalue_of c.in-Ok.array) = subst (λ r. Gives Excused lvalue_of array r) c.in-Ok.is (rw c.get-in-Element.ensures at c.eval_place-in-Element.ensures) in
     rw c.in-Element.is (rw (element_is c.in-Element.place c.in-Element.index)
-    (goes lvalue_of lvalue_of array (λ a. on_ok index (element_of p.target a)) c.in-Ok.array c.element_in.result found
+    (goes_on Excused lvalue_of lvalue_of array (λ a. on_ok index (element_of p.target a)) c.in-Ok.array c.element_in.result found
     ((rw c.target-t.ensures at c.element_in.ensures) index (rw c.get-in-Ok.ensures at c.eval-in-Ok.ensures))))

@@ -3,15 +3,16 @@ use Rattle.c_meaning.specs.Operators.{binary}
 use Rattle.c_meaning.specs.Values.{on_ok}
 use Rattle.c_operators.specs.Values.{value_of, Gives, Decides}
 use Rattle.c_expressions.specs.Places.{Excused}
-use Rattle.c_expressions.proofs.Exits.{fails, goes, undecided_fails}
+use Rattle.c_operators.proofs.Excuses.{passed_on, goes_on}
+use Rattle.c_expressions.proofs.Exits.{undecided_fails}
 use Rattle.c_expressions.proofs.following.left_of.Goals as goal
 
 pub returns-in-Err : goal.returns-in-Err
-returns-in-Err c said h t b = fails value_of value_of said (λ a. binary t c.args.op a b) c.in-Err.trouble (subst (λ r. Gives Excused value_of said r) c.in-Err.is h)
+returns-in-Err c said h t b = passed_on Excused value_of value_of said (λ a. binary t c.args.op a b) c.in-Err.trouble (subst (λ r. Gives Excused value_of said r) c.in-Err.is h)
 
 pub returns-in-Err-decided : goal.returns-in-Err-decided
 returns-in-Err-decided c said h t b =
-    goes value_of value_of said (λ a. binary t c.args.op a b) c.in-Ok.v (Err c.in-Err-decided.trouble) (subst (λ r. Gives Excused value_of said r) c.in-Ok.is h)
+    goes_on Excused value_of value_of said (λ a. binary t c.args.op a b) c.in-Ok.v (Err c.in-Err-decided.trouble) (subst (λ r. Gives Excused value_of said r) c.in-Ok.is h)
     (undecided_fails c.args.op (value_of c.in-Ok.v) c.in-Err-decided.trouble c.in-Err-decided.ensures t b)
 
 pub returns-in-Some : goal.returns-in-Some

@@ -2,11 +2,11 @@ use Rattle.std.proofs.Common.{subst}
 use Rattle.c_meaning.specs.Places.{pointee}
 use Rattle.c_operators.specs.Values.{Gives, value_of}
 use Rattle.c_expressions.specs.Places.{Excused, lvalue_of}
-use Rattle.c_expressions.proofs.Exits.{fails, goes}
+use Rattle.c_operators.proofs.Excuses.{passed_on, goes_on}
 use Rattle.c_expressions.proofs.following.pointee_of.Goals as goal
 
 pub returns-in-Ok : goal.returns-in-Ok
-returns-in-Ok c said h = goes value_of lvalue_of said (pointee c.args.program.now.unit.structs) c.in-Ok.v c.pointee.result (subst (λ p. Gives Excused value_of said p) c.in-Ok.is h) c.pointee.ensures
+returns-in-Ok c said h = goes_on Excused value_of lvalue_of said (pointee c.args.program.now.unit.structs) c.in-Ok.v c.pointee.result (subst (λ p. Gives Excused value_of said p) c.in-Ok.is h) c.pointee.ensures
 
 pub returns-in-Err : goal.returns-in-Err
-returns-in-Err c said h = fails value_of lvalue_of said (pointee c.args.program.now.unit.structs) c.in-Err.trouble (subst (λ p. Gives Excused value_of said p) c.in-Err.is h)
+returns-in-Err c said h = passed_on Excused value_of lvalue_of said (pointee c.args.program.now.unit.structs) c.in-Err.trouble (subst (λ p. Gives Excused value_of said p) c.in-Err.is h)

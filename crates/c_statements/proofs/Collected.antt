@@ -1,5 +1,5 @@
 -- What is found one by one, from left to right, up to the first trouble.
-use Rattle.std.proofs.Common.{◌≡◌, ℕ, List, [], ◌∷◌, ◌++◌, Result, Ok, Err, refl, sym, ap, ◌∙◌, append_assoc}
+use Rattle.std.proofs.Common.{◌≡◌, List, [], ◌∷◌, ◌++◌, Result, Ok, Err, refl, sym, ap, ◌∙◌, append_assoc}
 use Rattle.c_meaning.specs.Values.{Trouble, on_ok}
 
 pub on_ok_itself : {A : Type 0} (r : Result A Trouble) → r ≡ on_ok r (λ a. Ok a)

@@ -1,16 +1,15 @@
 -- The numbers of a type's scalars, part by part.
-use Rattle.std.proofs.Common.{◌≡◌, ℕ, zero, suc, ◌+◌, ◌-◌, ◌<◌, ◌≤◌, ℤ, List, [], ◌∷◌, ◌++◌, length, map, drop, Result, Ok, Err, refl, sym, ap, ◌∙◌, subst, arith, append_assoc}
-use Rattle.type_trees.specs.Trees.{Leaf, Many, Struct, Row, End, Field}
-use Rattle.type_trees.specs.Values.{Value, Values, Cell, Parts, Nil, Cons, cells, cells_row}
-use Rattle.c_memory.specs.Initializers.{Init, One, Zero, Braces, Inits, Done, More, zeros, zeros_row, initial, initial_row, elements, copies_of}
-use Rattle.c_ast.specs.declared.CScalar.{CScalar}
+use Rattle.std.proofs.Common.{◌≡◌, ℕ, zero, suc, ℤ, List, ◌++◌, Result, Ok, Err, refl, sym, ap, ◌∙◌, append_assoc}
+use Rattle.type_trees.specs.Trees.{Many, Struct, End, Field}
+use Rattle.type_trees.specs.Values.{Value, cells, cells_row}
+use Rattle.c_memory.specs.Initializers.{Init, Braces, Inits, Done, More, zeros, zeros_row, initial, initial_row, elements, copies_of}
 use Rattle.c_ast.specs.declared.Target.{Target}
 use Rattle.c_ast.specs.Structs.{CTree, CRow}
 use Rattle.c_ast.specs.Syntax.{Name}
-use Rattle.c_meaning.specs.Initializers.{as_number, each_number, in_numbers, row_in_numbers}
+use Rattle.c_meaning.specs.Initializers.{each_number, in_numbers, row_in_numbers}
 use Rattle.c_meaning.specs.Memory.{nought}
-use Rattle.c_meaning.specs.Values.{Trouble, Stuck, CValue, on_ok}
-use Rattle.c_statements.specs.Numbers.{number_given, numbers_given, elements_given, members_given}
+use Rattle.c_meaning.specs.Values.{Trouble, CValue, on_ok}
+use Rattle.c_statements.specs.Numbers.{numbers_given, elements_given, members_given}
 
 -- ---- zeros
 
@@ -18,7 +17,6 @@ pub zero_elements_more : (z : Value ℤ) (rest less : ℕ) (out whole : List ℤ
 zero_elements_more z rest less out whole e h = append_assoc out (cells z) (cells_row (copies_of less z)) ∙ ap (λ n. out ++ cells_row (copies_of n z)) (sym e) ∙ h
 
 -- ---- one after another
-
 
 pub numbers_more : (now r next all : Result (List ℤ) Trouble) (out more : List ℤ) → on_ok now (λ ns. Ok (out ++ ns)) ≡ all → now ≡ on_ok r (λ xs. on_ok next (λ ys. Ok (xs ++ ys))) → on_ok r (λ ns. Ok (out ++ ns)) ≡ Ok more → on_ok next (λ ns. Ok (more ++ ns)) ≡ all
 numbers_more now r next all out more h e k = go r next (ap (λ x. on_ok x (λ ns. Ok (out ++ ns))) (sym e) ∙ h) k

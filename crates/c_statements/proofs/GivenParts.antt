@@ -1,11 +1,11 @@
 -- What the parts of an initializer give, from a place on.
-use Rattle.std.proofs.Common.{◌≡◌, ℕ, zero, suc, ◌+◌, ◌-◌, ◌<◌, ◌≤◌, ℤ, List, [], ◌∷◌, ◌++◌, length, map, drop, get_or, Option, Some, None, Result, Ok, Err, refl, sym, ap, ◌∙◌, subst, arith, length-drop}
+use Rattle.std.proofs.Common.{◌≡◌, ℕ, zero, suc, ◌+◌, ◌<◌, ◌≤◌, ℤ, List, [], ◌∷◌, ◌++◌, length, map, drop, get_or, Option, Some, None, Result, Ok, Err, refl, sym, ap, ◌∙◌, arith, length-drop}
 use Rattle.std.specs.Prelude.{slice_get, OnOk}
 use Rattle.std.specs.Option.{option_map}
 use Rattle.iv_words.specs.declared.Memory.{Memory as NoRoom}
 use Rattle.type_trees.specs.Trees.{End, Field as Member}
 use Rattle.type_trees.specs.Values.{cells, cells_row}
-use Rattle.c_memory.specs.Initializers.{zeros, zeros_row, copies_of}
+use Rattle.c_memory.specs.Initializers.{zeros, copies_of}
 use Rattle.c_ast.specs.declared.Target.{Target}
 use Rattle.c_ast.specs.Structs.{CTree, CRow}
 use Rattle.c_meaning.specs.Memory.{nought}

@@ -1,5 +1,5 @@
 -- An object made with the values of its initializer, once they are numbers.
-use Rattle.std.proofs.Common.{◌≡◌, ℕ, ℤ, List, Bool, false, Result, Ok, Err, refl, sym, ap, ◌∙◌, subst}
+use Rattle.std.proofs.Common.{◌≡◌, ℕ, ℤ, List, Bool, false, Result, Ok, Err, refl, sym, ap, subst}
 use Rattle.type_trees.specs.Values.{cells}
 use Rattle.c_memory.specs.Initializers.{Init, initial}
 use Rattle.c_ast.specs.declared.CBase.{CBase}

@@ -1,5 +1,5 @@
 -- Values of scalars, read one after another.
-use Rattle.std.proofs.Common.{◌≡◌, ℤ, List, [], ◌∷◌, ◌++◌, Result, Ok, Err, refl, ap, ◌∙◌, sym, subst}
+use Rattle.std.proofs.Common.{◌≡◌, ℤ, List, [], ◌++◌, Result, Ok, Err, refl, ap, ◌∙◌, subst}
 use Rattle.c_memory.specs.Access as memory
 use Rattle.c_meaning.specs.Memory.{answered}
 use Rattle.c_meaning.specs.Values as meaning

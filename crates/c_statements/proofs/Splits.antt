@@ -1,5 +1,5 @@
 -- A step, and what comes after it, as one part and the next.
-use Rattle.std.proofs.Common.{◌≡◌, ℕ, zero, suc, List, Bool, Result, Ok, Err, refl, sym, ap, ◌∙◌, subst}
+use Rattle.std.proofs.Common.{◌≡◌, ℕ, zero, suc, List, Bool, Result, Ok, Err, refl, sym, subst}
 use Rattle.step_semantics.specs.Steps as steps
 use Rattle.step_semantics.specs.Steps.{Part, Progress, after, bind, tick, give}
 use Rattle.c_ast.specs.Syntax.{Expr}

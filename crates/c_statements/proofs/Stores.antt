@@ -1,5 +1,5 @@
 -- What an assignment to a place comes to.
-use Rattle.std.proofs.Common.{◌≡◌, Option, Some, None, Result, Ok, Err, Bool, refl, ap, ◌∙◌}
+use Rattle.std.proofs.Common.{◌≡◌, Some, None, Err, Bool, refl, ap}
 use Rattle.type_trees.specs.Trees.{Leaf, Many, Struct}
 use Rattle.c_ast.specs.declared.CScalar.{CScalar}
 use Rattle.c_ast.specs.declared.Target.{Target}

@@ -1,13 +1,12 @@
 -- Scalars that are written all or none, and what a call of an extern makes of them.
-use Rattle.std.proofs.Common.{◌≡◌, ℕ, ℤ, List, [], ◌∷◌, ◌++◌, map, Option, Some, None, Result, Ok, Err, refl, sym, ap, ◌∙◌, subst}
-use Rattle.std.specs.Prelude.{IfOk, OnOk}
+use Rattle.std.proofs.Common.{◌≡◌, ℕ, ℤ, List, [], ◌∷◌, ◌++◌, map, Some, None, Result, Ok, Err, refl, sym, ap, ◌∙◌, subst}
+use Rattle.std.specs.Prelude.{IfOk}
 use Rattle.iv_words.specs.declared.Memory.{Memory as NoRoom}
 use Rattle.run_records.specs.declared.Piece.{Piece}
 use Rattle.run_records.specs.declared.Plain.{Plain}
 use Rattle.step_semantics.specs.Imports.{import_call}
 use Rattle.step_semantics.specs.Steps as steps
 use Rattle.step_semantics.specs.Steps.{Part, bind, after}
-use Rattle.c_memory.specs.Access as access
 use Rattle.c_ast.specs.declared.CExtern.{CExtern}
 use Rattle.c_ast.specs.declared.CType.{CType}
 use Rattle.c_ast.specs.declared.CType.TheVariants.{Void, Value, Pointer}
@@ -26,7 +25,6 @@ use Rattle.c_objects.specs.declared.Fault.{Fault}
 use Rattle.c_objects.specs.declared.Fault.TheVariants.{Dead, BadAccess, Indeterminate, ConstWrite}
 use Rattle.c_objects.specs.declared.Refusal.{Refusal}
 use Rattle.c_objects.specs.declared.Refusal.TheVariants as refusal
-use Rattle.c_operators.specs.Values.{Gives, itself}
 use Rattle.c_operators.specs.declared.Trouble.{Trouble}
 use Rattle.c_operators.specs.declared.Trouble.TheVariants.{Undefined, Stuck, Memory}
 use Rattle.c_expressions.specs.Programs.{Parts, program_of}

@@ -1,10 +1,9 @@
 -- The scalars that a reply writes, one by one: they are those of the meaning, and where none of them is refused all are written.
-use Rattle.std.proofs.Common.{◌≡◌, ℕ, zero, suc, ℤ, Bool, true, false, List, [], ◌∷◌, ◌++◌, length, map, drop, Option, Some, None, Result, Ok, Err, refl, sym, ap, ◌∙◌, subst}
+use Rattle.std.proofs.Common.{◌≡◌, ℕ, zero, suc, ℤ, true, false, List, [], ◌∷◌, ◌++◌, length, map, drop, Option, Some, None, Result, Ok, Err, refl, sym, ap, ◌∙◌}
 use Rattle.std.specs.Prelude.{slice_get, slice_set}
 use Rattle.std.proofs.lemmas.List.{map-append, length-map}
 use Rattle.run_records.specs.declared.Plain.{Plain}
-use Rattle.type_trees.specs.Trees.{scalars, count}
-use Rattle.type_trees.specs.Layouts.{lay}
+use Rattle.type_trees.specs.Trees.{count}
 use Rattle.type_trees.proofs.Scalars.{length_scalars, scalars_of_lay}
 use Rattle.c_memory.specs.Access.{Fault, first_of, unless, and_then, of_object, write_fault, write_object, written as object_written, refusal, refuses, write}
 use Rattle.c_memory.specs.Codecs.{numbers}
@@ -18,12 +17,11 @@ use Rattle.c_ast.specs.declared.Target.{Target}
 use Rattle.c_ast.specs.Exports.{plain_of}
 use Rattle.c_ast.specs.Scalars.{metric_of}
 use Rattle.c_ast.specs.Structs.{tree}
-use Rattle.c_ast.specs.Syntax.{Name}
 use Rattle.c_ast.specs.Targets.{table_of}
 use Rattle.c_meaning.specs.Calls.{pointed, written_shape, write_replies}
-use Rattle.c_meaning.specs.Memory.{CObjects, memory_of, scalar_table, answered, reason_of}
-use Rattle.c_meaning.specs.Values.{Trouble, Undefined, Address, CValue, Num, Ptr, on_ok}
-use Rattle.c_statements.specs.Cells.{cell_of, behind, all_behind, first_refusal, written}
+use Rattle.c_meaning.specs.Memory.{CObjects, memory_of, scalar_table, answered}
+use Rattle.c_meaning.specs.Values.{Trouble, Address, CValue, Num, Ptr, on_ok}
+use Rattle.c_statements.specs.Cells.{cell_of, all_behind, first_refusal, written}
 use Rattle.c_statements.specs.declared.cells.Cell.{Cell}
 
 -- ---- the types of the values

@@ -1,5 +1,5 @@
 -- The types of parameters.
-use Rattle.std.specs.Prelude.{List, map}
+use Rattle.std.specs.Prelude.{List}
 use Rattle.c_ast.specs.declared.CType.{CType}
 use Rattle.c_meaning.specs.Runs.{param_types}
 use Rattle.c_statements.specs.declared.arguments.Params.{Params}

@@ -1,5 +1,5 @@
 -- The scalars behind the pointers through which the reply to a call writes, as one row.
-use Rattle.std.specs.Prelude.{ℕ, ℤ, List, [], ◌∷◌, ◌++◌, map, true, false, Option, Some, None, Result, Ok, Err}
+use Rattle.std.specs.Prelude.{ℕ, ℤ, List, [], ◌∷◌, ◌++◌, map, true, false, Option, None, Result, Ok}
 use Rattle.c_memory.specs.Access.{Fault, first_of, and_then}
 use Rattle.c_ast.specs.declared.CScalar.{CScalar}
 use Rattle.c_ast.specs.declared.CStruct.{CStruct}

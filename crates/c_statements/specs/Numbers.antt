@@ -1,5 +1,5 @@
 -- The numbers that an initializer gives a type's scalars, in order, the missing ones zero.
-use Rattle.std.specs.Prelude.{◌≡◌, ℕ, ℤ, List, ◌++◌, Option, Some, None, Result, Ok, Err}
+use Rattle.std.specs.Prelude.{ℕ, ℤ, List, ◌++◌, Option, Some, None, Result, Ok, Err}
 use Rattle.type_trees.specs.Values.{cells, cells_row}
 use Rattle.c_memory.specs.Initializers.{Init, One, Zero, Braces, Inits, zeros, initial, initial_row, elements}
 use Rattle.c_ast.specs.declared.CScalar.{CScalar}

@@ -1,6 +1,5 @@
 -- The parts of a reply to the call of an extern: the value of the call, and the values that are left to be written.
 use Rattle.std.specs.Prelude.{ℤ, List, [], ◌∷◌, Result, Ok, Err}
-use Rattle.run_records.specs.declared.Piece.{Piece}
 use Rattle.c_ast.specs.declared.CExtern.{CExtern}
 use Rattle.c_ast.specs.declared.CType.{CType}
 use Rattle.c_ast.specs.declared.CType.TheVariants.{Void, Value, Pointer}

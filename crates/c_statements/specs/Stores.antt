@@ -1,5 +1,5 @@
 -- A write to one scalar by an assignment.
-use Rattle.std.specs.Prelude.{ℤ, Option, Some, None, Result}
+use Rattle.std.specs.Prelude.{Option, Some, None, Result}
 use Rattle.type_trees.specs.Trees.{Leaf, Many, Struct}
 use Rattle.c_ast.specs.declared.CScalar.{CScalar}
 use Rattle.c_ast.specs.declared.Target.{Target}

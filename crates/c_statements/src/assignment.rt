@@ -12,8 +12,8 @@ ghost use Rattle.c_expressions.specs.State.{state_of};
 ghost use Rattle.c_statements.specs.Parts.{control_of, Does, Alters};
 ghost use Rattle.c_statements.specs.Stores.{leaf_of, scalar_stored};
 
-use crate::trouble::{answered, given, reason_of};
 use crate::parts::{Control, Run};
+use crate::trouble::{answered, given, reason_of};
 use c_ast::{CKind, CScalar, Target};
 use c_expressions::{Lvalue, Program, State};
 use c_objects::{ObjectType, Shape};

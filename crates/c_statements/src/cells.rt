@@ -13,8 +13,8 @@ ghost use Rattle.c_statements.specs.Cells as behind;
 ghost use Rattle.c_statements.specs.Parts.{Alters};
 ghost use Rattle.c_meaning.specs.Memory as memory;
 
-use crate::trouble::{answered, reason_of};
 use crate::pieces::pointed;
+use crate::trouble::{answered, reason_of};
 use c_ast::{CScalar, Target};
 use c_expressions::{Program, State};
 use c_objects::{Base, Fault, Objects, Refusal};
@@ -52,12 +52,7 @@ fn add_pointed(
     Ok(())
 }
 
-fn add_behind(
-    alloc: Global,
-    program: &Program,
-    v: Value,
-    out: &mut Seq<Cell>,
-) -> Result<(), Memory>
+fn add_behind(alloc: Global, program: &Program, v: Value, out: &mut Seq<Cell>) -> Result<(), Memory>
     ensures { OnOk result (out.new ≡ out.old ++ behind.behind program.now.target program.now.unit.structs (value_of v.entry)) }
 {
     match v {
@@ -73,11 +68,7 @@ fn add_behind(
 }
 
 /// The scalars behind all pointers that are not to a const base, in order.
-pub fn cells_behind(
-    alloc: Global,
-    program: &Program,
-    values: &[Value],
-) -> Result<Seq<Cell>, Memory>
+pub fn cells_behind(alloc: Global, program: &Program, values: &[Value]) -> Result<Seq<Cell>, Memory>
     ensures { IfOk result (λ cs. cs ≡ behind.all_behind program.now.target program.now.unit.structs (map value_of values.now)) }
 {
     let mut found = Seq::new(alloc);

@@ -6,10 +6,10 @@ ghost use Rattle.c_expressions.specs.Programs.{program_of};
 ghost use Rattle.c_statements.specs.Parts.{control_of, Does};
 ghost use Rattle.c_statements.specs.Given.{given_of};
 
-use crate::trouble::given;
 use crate::initial::Given;
 use crate::numbers::numbers_of;
 use crate::parts::{Control, Run};
+use crate::trouble::given;
 use c_ast::{CBase, CType};
 use c_expressions::Program;
 use c_operators::{Value, as_assigned, base_ref};
@@ -42,7 +42,8 @@ pub fn object<'a>(
 ) -> Result<Control<'a>, Stopped>
     ensures { Does program.now control_of (meaning.object (program_of program.now) name.now base.now) run.old run.new result }
 {
-    run.state.declare_object(alloc, program, name, base_ref(base))?;
+    run.state
+        .declare_object(alloc, program, name, base_ref(base))?;
     Ok(Control::Falls)
 }
 
@@ -59,6 +60,7 @@ pub fn object_with<'a>(
 {
     let ty = program.type_of(base_ref(base));
     let numbers = given(numbers_of(alloc, program.target(), ty, values))?;
-    run.state.declare_made(alloc, program, name, base_ref(base), numbers.as_slice())?;
+    run.state
+        .declare_made(alloc, program, name, base_ref(base), numbers.as_slice())?;
     Ok(Control::Falls)
 }

@@ -18,9 +18,9 @@ ghost use Rattle.c_statements.specs.Replies.{answer, reply_rest, reply_called, o
 use crate::arguments::{Params, as_arguments};
 use crate::assignment::as_number;
 use crate::cells::{Cell, add_plains, cells_behind, plain_of, write_cells};
-use crate::trouble::{given, room};
 use crate::parts::{Called, Run};
 use crate::pieces::pieces_of;
+use crate::trouble::{given, room};
 use c_ast::{CExtern, CKind, CScalar, CType, Target};
 use c_expressions::Program;
 use c_operators::{Trouble, Value};
@@ -120,7 +120,9 @@ fn outside_with<'a>(
     let cells = cells_behind(alloc, program, args)?;
     let shape = given(shape_of(alloc, x, cells.as_slice()))?;
     let name = Word::from_slice(alloc, outer_name(&x.name))?;
-    let reply = run.world.import_call(alloc, name, pieces, shape.as_slice())?;
+    let reply = run
+        .world
+        .import_call(alloc, name, pieces, shape.as_slice())?;
     replied(program, run, x, cells.as_slice(), reply.as_slice())
 }
 

@@ -13,8 +13,8 @@ ghost use Rattle.c_statements.specs.Given.{given_of, givens_of};
 ghost use Rattle.c_statements.specs.Numbers.{number_given, numbers_given, elements_given, member_given, members_given, Adds};
 
 use crate::assignment::as_number;
-use crate::trouble::room;
 use crate::initial::Given;
+use crate::trouble::room;
 use c_ast::{CScalar, Target};
 use c_objects::{Field, ObjectType, Shape};
 use c_operators::Trouble;
@@ -84,12 +84,7 @@ fn add_number(t: Target, s: CScalar, given: &Given, out: &mut Seq<i128>) -> Resu
 
 /// Adds the numbers of a type's scalars.
 #[cycle(numbers)]
-fn add_numbers(
-    t: Target,
-    shape: &Shape,
-    given: &Given,
-    out: &mut Seq<i128>,
-) -> Result<(), Trouble>
+fn add_numbers(t: Target, shape: &Shape, given: &Given, out: &mut Seq<i128>) -> Result<(), Trouble>
     ensures { Adds (numbers_given t (tree_of shape.now) (given_of given.now)) out.old out.new result }
 {
     match shape {
@@ -175,12 +170,7 @@ fn no_members(t: Target, givens: &Seq<Given>, out: &mut Seq<i128>) -> Result<(),
 }
 
 /// Adds the numbers of all scalars of a type.
-fn add_all(
-    t: Target,
-    ty: ObjectType,
-    given: &Given,
-    out: &mut Seq<i128>,
-) -> Result<(), Trouble>
+fn add_all(t: Target, ty: ObjectType, given: &Given, out: &mut Seq<i128>) -> Result<(), Trouble>
     ensures { Adds (numbers_given t (type_tree ty.entry) (given_of given.now)) out.old out.new result }
 {
     match ty {

@@ -30,7 +30,12 @@ pub fn pointed(
     ensures { IfOk result (λ places. places ≡ meaning.pointed program.now.target program.now.unit.structs (base_of base.entry) (address_of to)) }
 {
     let mut places = Seq::new(alloc);
-    lay_type(program.target(), program.type_of(base), to.offset, &mut places)?;
+    lay_type(
+        program.target(),
+        program.type_of(base),
+        to.offset,
+        &mut places,
+    )?;
     Ok(places)
 }
 
@@ -63,12 +68,7 @@ pub fn values_behind(
     values_at(alloc, program, objects, to.object, places.as_slice())
 }
 
-fn piece_of(
-    alloc: Global,
-    program: &Program,
-    objects: &Objects,
-    v: Value,
-) -> Result<Piece, Trouble>
+fn piece_of(alloc: Global, program: &Program, objects: &Objects, v: Value) -> Result<Piece, Trouble>
     ensures { Gives Excused itself (meaning.piece_of program.now.target program.now.unit.structs (objects_of objects.now) (value_of v.entry)) result }
 {
     match v {

@@ -14,8 +14,8 @@ ghost use Rattle.c_expressions.specs.Programs.{program_of};
 ghost use Rattle.c_statements.specs.Parts.{Does};
 ghost use Rattle.c_statements.specs.Steps.{with_arguments};
 
-use crate::trouble::given;
 use crate::parts::Run;
+use crate::trouble::given;
 use c_ast::CExpr;
 use c_expressions::{Program, eval, eval_all};
 use c_operators::{Trouble, Value, is_true};

@@ -1,7 +1,6 @@
 use Rattle.std.proofs.lemmas.Result.{err_from_is_err_and}
-use Rattle.std.proofs.Common.{◌≡◌, ◌∷◌, ◌++◌, [], List, map, drop, ◌+◌, sym, ap, ◌∙◌, arith, ◌<◌, length, Ok, Err, subst}
+use Rattle.std.proofs.Common.{◌≡◌, ◌∷◌, ◌++◌, [], List, map, drop, ◌+◌, sym, ap, ◌∙◌, arith, Ok, subst}
 use Rattle.std.proofs.lemmas.List.{map-append}
-use Rattle.std.specs.Option.{option_copied}
 use Rattle.c_meaning.specs.Values.{CValue, Stuck, on_ok, as_arguments, as_assigned}
 use Rattle.c_operators.specs.Values.{value_of, Never}
 use Rattle.c_statements.specs.Arguments.{types_of}
@@ -59,6 +58,6 @@ loop-i-preserved c =
     let next = as_arguments t (drop (i + 1) ts) (map value_of (drop (i + 1) vs)) in
     let said = as_assigned t c.in-Some.ty.now (value_of v) in
     let kept = one_more put before append_one (as_arguments t ts (map value_of vs)) now next said (map value_of c.loop-i.converted) (value_of c.in_ok-v.v) c.loop-i.invariant
-        (argument_at t ts vs i c.in-Some.ty.now v c.in-Some.ensures c.loop-i-test.true c.index-values-i.is) c.in_ok-v.ensures in
+    (argument_at t ts vs i c.in-Some.ty.now v c.in-Some.ensures c.loop-i-test.true c.index-values-i.is) c.in_ok-v.ensures in
     let pushed = room_on c.push.result (c.push.new.self ≡ c.loop-i.converted ++ c.in_ok-v.v ∷ []) c.in_ok-room.field-0 c.in_ok-room.ensures c.push.ensures.ok in
     subst (λ front. on_ok next (λ rest. Ok (front ++ rest)) ≡ as_arguments t ts (map value_of vs)) (sym (ap (map value_of) pushed ∙ map-append value_of c.loop-i.converted (c.in_ok-v.v ∷ []))) kept

@@ -1,4 +1,4 @@
-use Rattle.std.proofs.Common.{sym, ap, ◌∙◌, arith, ◌<◌, length, None, Some}
+use Rattle.std.proofs.Common.{sym, ap, ◌∙◌, arith, ◌<◌, length}
 use Rattle.std.specs.Option.{option_map}
 use Rattle.c_memory.specs.Access.{first_of}
 use Rattle.c_ast.specs.declared.CScalar.TheVariants.{Truth}
@@ -8,7 +8,6 @@ use Rattle.c_statements.specs.Cells.{first_refusal}
 use Rattle.std.specs.Prelude.{drop, ◌+◌}
 use Rattle.c_statements.proofs.CellLoops.{refusal_at, refusal_end}
 use Rattle.c_statements.proofs.cells.first_refusal.Goals as goal
-
 
 pub loop-i-preserved : goal.loop-i-preserved
 loop-i-preserved c =

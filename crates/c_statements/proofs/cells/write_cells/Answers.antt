@@ -11,9 +11,11 @@ use Rattle.c_statements.proofs.WrittenAll.{refused_all, written_all}
 use Rattle.c_statements.proofs.cells.write_cells.Goals as goal
 
 pub returns-in-Ok-Some : goal.returns-in-Ok-Some
-returns-in-Ok-Some c =
-    (refused_all c.args.t c.args.cells.now c.args.values.now (objects_of c.args.state.now.objects) c.in-Ok-Some.fault (ap (option_map fault_of) (sym c.in-Ok-Some.field-0-is) ∙ c.in-Ok-Some.ensures)
-    ∙ ap (λ r. Err (meaning.Undefined r)) (sym c.reason_of.ensures), refl)
+returns-in-Ok-Some c = (
+  refused_all c.args.t c.args.cells.now c.args.values.now (objects_of c.args.state.now.objects) c.in-Ok-Some.fault (ap (option_map fault_of) (sym c.in-Ok-Some.field-0-is) ∙ c.in-Ok-Some.ensures)
+      ∙ ap (λ r. Err (meaning.Undefined r)) (sym c.reason_of.ensures),
+  refl,
+)
 
 pub returns : goal.returns
 returns c =

@@ -1,5 +1,5 @@
 use Rattle.std.proofs.lemmas.Result.{err_from_is_err_and}
-use Rattle.std.proofs.Common.{◌≡◌, ◌++◌, List, ℕ, ℤ, map, Ok, Err, sym, ap, ◌∙◌, subst}
+use Rattle.std.proofs.Common.{◌++◌, List, ℕ, ℤ, map, Ok, ◌∙◌, subst}
 use Rattle.run_records.specs.declared.Plain.{Plain}
 use Rattle.step_semantics.specs.Imports.{import_call}
 use Rattle.c_ast.specs.Exports.{plain_of}
@@ -31,7 +31,7 @@ returns-in_err-reply c =
     let why = c.in_err-reply.field-0.0 in
     let new = c.import_call.new.self in
     let h = subst (λ (shape : List Plain). Comes unseen itself (import_call unseen (outer_name x.name) c.args.pieces shape run.world.steps (world_of run.world) tt) (no_reply why) new tt) c.as_slice-2.ensures
-        (subst (λ (name : List ℕ). Comes unseen itself (import_call unseen name c.args.pieces c.as_slice-2.result.now run.world.steps (world_of run.world) tt) (no_reply why) new tt) named c.in_err-reply.ensures) in
+    (subst (λ (name : List ℕ). Comes unseen itself (import_call unseen name c.args.pieces c.as_slice-2.result.now run.world.steps (world_of run.world) tt) (no_reply why) new tt) named c.in_err-reply.ensures) in
     rw (q.1, q.2) (call_stops p x args c.args.pieces c.in_ok-shape.shape cs are is run.world new (state_of run.state) why h)
 
 pub returns : goal.returns
@@ -47,6 +47,6 @@ returns c =
     let reply = c.in_ok-reply.reply in
     let mid = c.import_call.new.self in
     let h = subst (λ (shape : List Plain). Comes unseen itself (import_call unseen (outer_name x.name) c.args.pieces shape run.world.steps (world_of run.world) tt) (Ok reply) mid tt) c.as_slice-2.ensures
-        (subst (λ (name : List ℕ). Comes unseen itself (import_call unseen name c.args.pieces c.as_slice-2.result.now run.world.steps (world_of run.world) tt) (Ok reply) mid tt) named c.in_ok-reply.ensures) in
+    (subst (λ (name : List ℕ). Comes unseen itself (import_call unseen name c.args.pieces c.as_slice-2.result.now run.world.steps (world_of run.world) tt) (Ok reply) mid tt) named c.in_ok-reply.ensures) in
     let k = subst (λ (got : List ℤ). Does p called_of (answer (program_of p) x args got) (record run { world = mid }) c.replied.new.run c.replied.result) c.as_slice-4.ensures (c.replied.ensures args (c.as_slice-3.ensures ∙ c.in_ok-cells.ensures)) in
     call_goes p x args c.args.pieces c.in_ok-shape.shape cs are is run.world mid c.replied.new.run.world (state_of run.state) (state_of c.replied.new.run.state) reply c.replied.result h k

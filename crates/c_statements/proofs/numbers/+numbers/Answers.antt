@@ -1,10 +1,10 @@
 use Rattle.std.proofs.lemmas.Result.{err_from_is_err_and}
-use Rattle.std.proofs.Common.{◌≡◌, ◌-◌, ◌+◌, ◌++◌, ◌<◌, ◌≤◌, suc, List, ℤ, length, map, drop, Ok, Err, sym, ap, ◌∙◌, arith, subst}
+use Rattle.std.proofs.Common.{◌≡◌, ◌-◌, ◌+◌, ◌++◌, ◌≤◌, suc, List, ℤ, length, map, drop, Ok, sym, ap, ◌∙◌, arith, subst}
 use Rattle.std.specs.Option.{option_map, option_copied}
 use Rattle.type_trees.specs.Values.{cells_row}
 use Rattle.c_memory.specs.Initializers.{zeros, copies_of}
 use Rattle.c_meaning.specs.Memory.{nought}
-use Rattle.c_meaning.specs.Values.{on_ok, Stuck}
+use Rattle.c_meaning.specs.Values.{on_ok}
 use Rattle.c_objects.specs.Shapes.{tree_of, field_of, row_from}
 use Rattle.c_operators.specs.Values.{Gives}
 use Rattle.run_world.proofs.Rests.{one_left, nothing_left}

@@ -2,7 +2,7 @@ use Rattle.std.proofs.lemmas.Result.{err_from_is_err_and}
 use Rattle.std.proofs.Common.{◌≡◌, ◌++◌, [], List, ℤ, Ok, Err, subst}
 use Rattle.c_meaning.specs.Values.{on_ok}
 use Rattle.c_objects.specs.Shapes.{type_tree}
-use Rattle.c_operators.specs.Values.{Gives, itself}
+use Rattle.c_operators.specs.Values.{itself}
 use Rattle.c_statements.specs.Given.{given_of}
 use Rattle.c_statements.specs.Numbers.{numbers_given, Adds}
 use Rattle.c_statements.proofs.ConvertedArguments.{passes}

@@ -1,5 +1,5 @@
 use Rattle.std.proofs.lemmas.Result.{err_from_is_err_and}
-use Rattle.std.proofs.Common.{◌≡◌, List, ℤ, Ok, Err, sym, ap, ◌∙◌, subst}
+use Rattle.std.proofs.Common.{List, ℤ, Ok, Err, sym, ap, ◌∙◌, subst}
 use Rattle.run_records.specs.declared.Piece.{Piece}
 use Rattle.run_records.specs.declared.Piece.TheVariants.{Cells}
 use Rattle.c_meaning.specs.Calls.{piece_of}

@@ -1,5 +1,5 @@
 use Rattle.std.proofs.lemmas.Result.{err_from_is_err_and}
-use Rattle.std.proofs.Common.{subst, ◌≡◌, [], List, ℤ, Ok, Err}
+use Rattle.std.proofs.Common.{subst, ◌≡◌, List, ℤ, Ok, Err}
 use Rattle.c_memory.specs.Copies.{read_each}
 use Rattle.c_meaning.specs.Memory.{memory_of, answered}
 use Rattle.c_operators.specs.Values.{Gives, itself}

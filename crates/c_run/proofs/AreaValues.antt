@@ -1,5 +1,5 @@
 -- What is seen of an object, from the values of its scalars.
-use Rattle.std.proofs.Common.{◌≡◌, ◌++◌, ℤ, List, [], Result, Ok, Err, refl, ap}
+use Rattle.std.proofs.Common.{◌≡◌, ℤ, List, [], Result, Ok, Err, refl}
 use Rattle.c_memory.specs.Access.{Fault}
 use Rattle.c_meaning.specs.Memory.{answered}
 use Rattle.c_meaning.specs.State.{shown}

@@ -6,7 +6,7 @@ use Rattle.run_world.proofs.Rests.{nothing_left}
 use Rattle.std.proofs.lemmas.List.{map-append}
 use Rattle.iv_words.specs.Words.{same_word}
 use Rattle.c_ast.specs.Names.{outer_name}
-use Rattle.c_ast.specs.Syntax.{Name, Function, Stmt, Stmts, Nil, Cons}
+use Rattle.c_ast.specs.Syntax.{Name, Function}
 use Rattle.c_ast.specs.View.{function_of, stmt_of, stmts_of}
 use Rattle.c_ast.specs.declared.CFunction.{CFunction}
 use Rattle.c_ast.specs.declared.CStmt.{CStmt}

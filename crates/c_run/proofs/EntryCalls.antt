@@ -1,14 +1,14 @@
 -- Calls of the outside, one after another, and their numbers as values.
-use Rattle.std.proofs.Common.{◌≡◌, ◌≢◌, ℕ, zero, suc, ℤ, List, [], ◌∷◌, length, Option, Result, Ok, Err, refl, ap, ◌∙◌, arith}
+use Rattle.std.proofs.Common.{◌≡◌, ◌≢◌, ℕ, suc, ℤ, List, [], ◌∷◌, length, Option, Ok, Err, refl, ap}
 use Rattle.run_records.specs.declared.EntryCall.{EntryCall}
 use Rattle.step_semantics.specs.Steps as steps
 use Rattle.step_semantics.specs.Steps.{Part, Progress, Finished, Halted, Exhausted, after, bind, tick, give}
-use Rattle.step_semantics.specs.Runs.{Body, returned, entry_calls}
+use Rattle.step_semantics.specs.Runs.{returned, entry_calls}
 use Rattle.c_ast.specs.declared.CType.{CType}
 use Rattle.c_ast.specs.declared.CType.TheVariants.{Void, Value, Pointer}
 use Rattle.c_meaning.specs.Runs.{entry, entry_values}
 use Rattle.c_meaning.specs.State.{Program, CState}
-use Rattle.c_meaning.specs.Values.{Stuck, CValue, Num, on_ok}
+use Rattle.c_meaning.specs.Values.{Stuck, Num, on_ok}
 use Rattle.c_ast.specs.declared.CKind.TheVariants.{Scalar}
 use Rattle.c_run.specs.Entries.{entry_step, number_as}
 

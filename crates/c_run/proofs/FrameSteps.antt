@@ -1,5 +1,5 @@
 -- The frame of a function at its entry, from its last parameter on.
-use Rattle.std.proofs.Common.{◌≡◌, ℕ, zero, suc, ◌+◌, ◌-◌, ◌<◌, ◌≤◌, List, [], ◌∷◌, ◌++◌, length, map, drop, get_or, min, refl, sym, ap, ◌∙◌, arith, length-drop}
+use Rattle.std.proofs.Common.{◌≡◌, ℕ, ◌+◌, ◌-◌, ◌<◌, List, [], ◌∷◌, ◌++◌, length, map, drop, get_or, min, refl, sym, ap, ◌∙◌, arith}
 use Rattle.c_ast.specs.declared.CParam.{CParam}
 use Rattle.c_meaning.specs.Runs.{bound}
 use Rattle.c_meaning.specs.State.{Holding}

@@ -1,11 +1,10 @@
 -- What the outside sees of a whole run.
-use Rattle.std.proofs.Common.{◌≡◌, ℕ, List, [], Option, Some, None, Result, Ok, Err, refl, sym, ap, ◌∙◌, subst, if◌then◌else◌}
+use Rattle.std.proofs.Common.{◌≡◌, ℕ, List, [], Some, Result, Ok, Err, sym, ap, ◌∙◌, if◌then◌else◌}
 use Rattle.run_records.specs.declared.AreaCells.{AreaCells}
 use Rattle.run_records.specs.declared.End.{End}
 use Rattle.run_records.specs.declared.Outcome.{Outcome}
 use Rattle.run_records.specs.declared.Script.{Script}
 use Rattle.step_semantics.specs.Runs.{entry_calls, start, run}
-use Rattle.step_semantics.specs.Steps as steps
 use Rattle.step_semantics.specs.Runs.{outcome}
 use Rattle.c_meaning.specs.Runs.{entry, run_from}
 use Rattle.c_meaning.specs.Values as meaning
@@ -20,7 +19,7 @@ use Rattle.c_expressions.specs.Programs.{Parts, program_of}
 use Rattle.run_world.specs.Comes.{Comes, world_of, itself, end_after, shows_areas}
 use Rattle.run_world.specs.declared.Stopped.{Stopped}
 use Rattle.run_world.specs.declared.World.{World}
-use Rattle.run_world.proofs.Comes.{outcome_comes, shown}
+use Rattle.run_world.proofs.Comes.{outcome_comes}
 
 pub run_is : (p : Parts) (script : Script) (first new : CState) (old w : World) (n : ℕ) (r : Result (Unit {0}) Stopped) (e : End) (areas : List AreaCells) → world_of old ≡ start script → old.steps ≡ n → end_after r ≡ Some e
     → Comes (seen (program_of p)) itself (entry_calls (entry (program_of p)) script.calls old.steps (world_of old) first) r w new → areas ≡ (if shows_areas e then seen (program_of p) new else [])

@@ -1,5 +1,5 @@
 -- Statements that call no function, step by step.
-use Rattle.std.proofs.Common.{◌≡◌, ℕ, List, Option, Some, None, Result, Ok, Err, refl, sym, ap, ◌∙◌, subst}
+use Rattle.std.proofs.Common.{◌≡◌, Option, Some, Result, Ok, Err, refl, sym, subst}
 use Rattle.step_semantics.specs.Steps as steps
 use Rattle.step_semantics.specs.Steps.{after, give, tick}
 use Rattle.step_semantics.specs.Control as control
@@ -8,18 +8,15 @@ use Rattle.c_ast.specs.Syntax.{Name, Expr, Place}
 use Rattle.c_meaning.specs.Calls as calls
 use Rattle.c_meaning.specs.Expressions.{eval, eval_place}
 use Rattle.c_meaning.specs.Places as places
-use Rattle.c_meaning.specs.State.{CState, seen}
+use Rattle.c_meaning.specs.State.{CState}
 use Rattle.c_meaning.specs.Statements.{with_value, assign, declaration}
-use Rattle.c_meaning.specs.Values as meaning
 use Rattle.c_meaning.specs.Values.{CValue}
-use Rattle.c_operators.specs.Values.{Gives, value_of}
-use Rattle.c_operators.specs.declared.Trouble.{Trouble}
-use Rattle.c_operators.specs.declared.Trouble.TheVariants.{Undefined, Stuck, Memory}
+use Rattle.c_operators.specs.Values.{value_of}
 use Rattle.c_operators.specs.declared.Value.{Value}
 use Rattle.c_expressions.specs.Programs.{Parts, program_of}
 use Rattle.c_expressions.specs.State.{state_of}
 use Rattle.run_world.specs.declared.Stopped.{Stopped}
-use Rattle.c_statements.specs.Parts.{Does, given, control_of}
+use Rattle.c_statements.specs.Parts.{Does, control_of}
 use Rattle.c_statements.specs.declared.Control.{Control}
 use Rattle.c_statements.specs.declared.Control.TheVariants.{Returned}
 use Rattle.c_statements.specs.declared.Run.{Run}

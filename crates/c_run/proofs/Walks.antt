@@ -1,9 +1,7 @@
 -- How the walk over blocks, loops and calls comes out as the meaning does.
-use Rattle.std.proofs.Common.{◌≡◌, ℕ, zero, suc, ◌+◌, ◌-◌, ◌<◌, ◌≤◌, List, [], ◌∷◌, ◌++◌, length, map, drop, take, Option, Some, None, Result, Ok, Err, refl, sym, ap, ◌∙◌, subst, arith}
-use Rattle.std.specs.Prelude.{reverse, slice_get}
+use Rattle.std.proofs.Common.{◌≡◌, ℕ, suc, List, [], ◌∷◌, ◌++◌, length, map, Option, Ok, Err, sym, ap, ◌∙◌, subst}
 use Rattle.std.proofs.lemmas.List.{length-map, length-reverse}
-use Rattle.step_semantics.specs.Steps as steps
-use Rattle.step_semantics.specs.Steps.{Part, Progress, Finished, Halted, Exhausted, after, bind, tick, give, block, left}
+use Rattle.step_semantics.specs.Steps.{Part, Progress, Finished, after, tick, block, left}
 use Rattle.step_semantics.specs.Control as control
 use Rattle.step_semantics.specs.Control.{onward, also, again, turns, forever}
 use Rattle.step_semantics.specs.Safe.{Keeps}
@@ -23,7 +21,7 @@ use Rattle.c_expressions.specs.declared.State.{State}
 use Rattle.run_world.specs.Comes.{Comes, world_of, Ticked}
 use Rattle.run_world.specs.declared.World.{World}
 use Rattle.run_world.specs.declared.Stopped.{Stopped}
-use Rattle.run_world.proofs.Comes.{goes_on, stops, leaves, stops_within, ticked, not_ticked}
+use Rattle.run_world.proofs.Comes.{stops, leaves, stops_within, ticked, not_ticked}
 use Rattle.c_statements.specs.Parts.{control_of, Does}
 use Rattle.c_statements.specs.declared.Control.{Control}
 use Rattle.c_statements.specs.declared.Control.TheVariants.{Falls, Broke, Returned}

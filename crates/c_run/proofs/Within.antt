@@ -1,5 +1,5 @@
 -- Statements only add names to the frame in which they stand, and calls leave the frames as they were.
-use Rattle.std.proofs.Common.{◌≡◌, ℕ, zero, suc, ℤ, Bool, true, false, List, [], ◌∷◌, Option, Some, None, refl, sym, ap, ◌∙◌, append_assoc, subst}
+use Rattle.std.proofs.Common.{◌≡◌, ℕ, ℤ, Bool, true, false, List, [], ◌∷◌, Option, Some, None, refl, sym, ap, ◌∙◌, append_assoc}
 use Rattle.std.specs.List.{find}
 use Rattle.std.specs.Prelude.{◌++◌, if◌then◌else◌, Result, Ok, Err}
 use Rattle.iv_words.specs.Words.{same_word}
@@ -7,11 +7,11 @@ use Rattle.iv_words.specs.declared.IntKind.TheVariants.{U32}
 use Rattle.run_records.specs.declared.Piece.{Piece}
 use Rattle.run_records.specs.declared.Plain.{Plain}
 use Rattle.step_semantics.specs.Frames.{Frames, pop_frame}
-use Rattle.step_semantics.specs.Steps.{World, Halt, Progress, Finished, Halted, Exhausted, Part, bind, tick, block}
+use Rattle.step_semantics.specs.Steps.{World, Halt, Finished, Part, bind, tick, block}
 use Rattle.step_semantics.specs.Control.{Control, Falls, Broke, Returned}
 use Rattle.step_semantics.specs.Imports.{import_call}
 use Rattle.step_semantics.specs.Safe.{Keeps}
-use Rattle.step_semantics.proofs.Keeping.{Given, keeps_weaker, keeps_after, keeps_tick, keeps_left, keeps_also, keeps_forever, keeps_choice, keeps_import_call}
+use Rattle.step_semantics.proofs.Keeping.{Given, keeps_weaker, keeps_after, keeps_tick, keeps_left, keeps_also, keeps_forever, keeps_import_call}
 use Rattle.step_semantics.proofs.FrameLaws.{keeps_in_frame}
 use Rattle.c_memory.specs.Initializers.{Init}
 use Rattle.c_ast.specs.Structs.{tree}
@@ -23,8 +23,7 @@ use Rattle.c_ast.specs.declared.CType.TheVariants.{Void, Value, Pointer}
 use Rattle.c_ast.specs.Names.{outer_name, stop_name}
 use Rattle.c_ast.specs.Syntax.{Name, Expr, FunctionCall, Stmt, Const, ConstCall, Object, Assign, If, IfElse, Forever, Break, Return, Block, Call, Stmts, Nil, Cons, Function}
 use Rattle.c_meaning.specs.Values.{Trouble, CValue, Num, Ptr, is_true, on_ok, as_assigned, as_arguments}
-use Rattle.c_meaning.specs.Memory.{CObjects}
-use Rattle.c_meaning.specs.State.{Program, CState, Frame, declare, declare_object, leave, enter, back, seen}
+use Rattle.c_meaning.specs.State.{Program, CState, Frame, leave, enter, back, seen}
 use Rattle.c_meaning.specs.Expressions.{eval, eval_place, eval_all}
 use Rattle.c_meaning.specs.Places.{Lvalue, alive}
 use Rattle.c_meaning.specs.Initializers.{eval_init, made_with}

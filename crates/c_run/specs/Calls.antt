@@ -1,5 +1,5 @@
 -- The functions that a function may call: those before it, of which the latest of a name counts; and how much there is to walk.
-use Rattle.std.specs.Prelude.{ℕ, suc, ◌+◌, List, [], ◌∷◌, map, Option, Some, None}
+use Rattle.std.specs.Prelude.{ℕ, ◌+◌, List, [], ◌∷◌, map}
 use Rattle.c_ast.specs.Syntax.{Function, Stmt, Const, ConstCall, Object, Assign, If, IfElse, Forever, Break, Return, Block, Call, Stmts, Nil, Cons}
 use Rattle.c_ast.specs.View.{function_of}
 use Rattle.c_ast.specs.declared.CFunction.{CFunction}

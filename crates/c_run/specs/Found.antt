@@ -1,5 +1,5 @@
 -- What a call and an entry call reach, by the places of functions in their unit.
-use Rattle.std.specs.Prelude.{◌≡◌, ◌<◌, ◌+◌, ℕ, ℤ, List, length, map, take, drop, slice_get, Some}
+use Rattle.std.specs.Prelude.{◌≡◌, ◌<◌, ◌+◌, ℕ, ℤ, List, length, map, take, slice_get, Some}
 use Rattle.c_ast.specs.Syntax.{Name}
 use Rattle.c_ast.specs.View.{function_of}
 use Rattle.c_ast.specs.declared.CFunction.{CFunction}

@@ -16,7 +16,9 @@ ghost use Rattle.run_records.specs.declared.Reason.TheVariants.{NoValue};
 
 use c_ast::{CBase, CExpr, CInit, CPlace, CType};
 use c_expressions::{Program, eval, eval_place};
-use c_statements::{Called, Control, Run, assign, declaration, eval_init, given, object, object_with, value_step};
+use c_statements::{
+    Called, Control, Run, assign, declaration, eval_init, given, object, object_with, value_step,
+};
 use iv_words::Word;
 use run_records::Reason;
 use run_world::{Halt, Stopped};

@@ -129,12 +129,7 @@ fn run_from<'a>(
 }
 
 /// The run of a program whose initializers of file scope have a meaning, or else that it has none.
-fn outcome_of(
-    alloc: Global,
-    program: &Program,
-    script: &Script,
-    n: u64,
-) -> Result<Outcome, Memory>
+fn outcome_of(alloc: Global, program: &Program, script: &Script, n: u64) -> Result<Outcome, Memory>
     ensures { IfOk result (λ o. o ≡ run_program (program_of program.now) script.now n) }
 {
     match given(first_state(alloc, program)) {

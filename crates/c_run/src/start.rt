@@ -30,7 +30,13 @@ fn make_object<'a>(
     let values = eval_init(alloc, program, &rest, &object.init)?;
     let ty = program.type_of(base_ref(&object.base));
     let numbers = numbers_of(alloc, program.target(), ty, &values)?;
-    room(objects.initialize(alloc, program.target(), ty, object.constant, numbers.as_slice()))
+    room(objects.initialize(
+        alloc,
+        program.target(),
+        ty,
+        object.constant,
+        numbers.as_slice(),
+    ))
 }
 
 /// The state before the first entry call.

@@ -17,11 +17,17 @@ ghost use Rattle.step_semantics.specs.Control.{forever};
 
 use crate::find::{find_extern, find_function, is_stop};
 use crate::functions::{entry_frame, function_value};
-use crate::leaves::{assignment, break_step, const_name, const_of_call, made_object, plain_object, no_value, return_step};
+use crate::leaves::{
+    assignment, break_step, const_name, const_of_call, made_object, no_value, plain_object,
+    return_step,
+};
 use c_ast::{CCall, CExpr, CFunction, CStmt, CType};
 use c_expressions::Program;
 use c_operators::Value;
-use c_statements::{Called, Control, Params, Run, argument_step, as_arguments, extern_call, given, stop_call, truth_step};
+use c_statements::{
+    Called, Control, Params, Run, argument_step, as_arguments, extern_call, given, stop_call,
+    truth_step,
+};
 use iv_words::{Seq, Word};
 use run_world::Stopped;
 use std::alloc::Global;
@@ -47,9 +53,7 @@ pub fn exec<'a>(
             Some(init) => made_object(alloc, program, run, name, base, init),
         },
         CStmt::Assign(place, e) => assignment(program, run, place, e),
-        CStmt::If(e, first, second) => {
-            choice(alloc, program, functions, run, e, first, second)
-        }
+        CStmt::If(e, first, second) => { choice(alloc, program, functions, run, e, first, second) }
         CStmt::Forever(body) => forever(alloc, program, functions, run, body),
         CStmt::Break => break_step(program, run),
         CStmt::Return(value) => return_step(program, run, value),
@@ -200,7 +204,14 @@ fn call_step<'a>(
     ensures { Does program.now called_of (meaning.call_step (program_of program.now) (calls_of (program_of program.now) functions.now) (call_of call.now)) run.old run.new result }
 {
     let values = argument_step(alloc, program, run, call.args.as_slice())?;
-    called(alloc, program, functions, run, &call.name, values.as_slice())
+    called(
+        alloc,
+        program,
+        functions,
+        run,
+        &call.name,
+        values.as_slice(),
+    )
 }
 
 /// What is called by a name: the end of the run, an extern or a function.

@@ -1,7 +1,6 @@
 use Rattle.std.proofs.Common.{◌≡◌, ◌++◌, map, drop}
 use Rattle.c_ast.specs.View.{object_of}
-use Rattle.c_meaning.specs.State.{seen, seen_from}
-use Rattle.c_expressions.specs.Programs.{program_of}
+use Rattle.c_meaning.specs.State.{seen_from}
 use Rattle.c_expressions.specs.State.{state_of}
 use Rattle.c_run.proofs.areas.areas_of.Given as goal
 

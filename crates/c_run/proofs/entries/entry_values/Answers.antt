@@ -1,4 +1,4 @@
-use Rattle.std.proofs.Common.{◌≡◌, ◌∷◌, ◌++◌, [], List, ℤ, pos, suc, map, drop, get_or, ◌+◌, ◌<◌, sym, ap, ◌∙◌, arith, length, Ok, subst}
+use Rattle.std.proofs.Common.{◌≡◌, ◌∷◌, ◌++◌, [], List, pos, suc, map, drop, get_or, ◌+◌, ◌<◌, sym, ap, ◌∙◌, arith, length, Ok, subst}
 use Rattle.std.proofs.Math.Seq.{drop-cons}
 use Rattle.std.proofs.lemmas.List.{map-append, length-map}
 use Rattle.c_ast.specs.declared.CParam.{CParam}
@@ -34,7 +34,7 @@ loop-i-preserved c =
     let low : i < length ns = omega (arith, c.if-params-numbers.false, c.loop-i-test.true) in
     let e : suc i ≡ i + 1 = omega arith in
     let at = ap (λ l. entry_values (param_types l) (drop i ns)) (one_left ps i x c.loop-i-test.true c.index-params-i.is)
-        ∙ ap (λ l. entry_values (param_types (x ∷ drop (i + 1) ps)) l) (drop-cons ns i (pos 0) low ∙ ap (λ k. n ∷ drop k ns) e) ∙ one_value x.ty (param_types (drop (i + 1) ps)) n (drop (i + 1) ns) in
+    ∙ ap (λ l. entry_values (param_types (x ∷ drop (i + 1) ps)) l) (drop-cons ns i (pos 0) low ∙ ap (λ k. n ∷ drop k ns) e) ∙ one_value x.ty (param_types (drop (i + 1) ps)) n (drop (i + 1) ns) in
     let kept = one_more put before append_one whole now next (number_as x.ty n) (map value_of c.loop-i.values) (value_of c.in_ok-v.v) c.loop-i.invariant at (ap (λ (y : CParam). number_as y.ty n) c.index-params-i.is ∙ c.in_ok-v.ensures) in
     let pushed = room_on c.push.result (c.push.new.self ≡ c.loop-i.values ++ c.in_ok-v.v ∷ []) c.in_ok-room.field-0 c.in_ok-room.ensures c.push.ensures.ok in
     subst (λ front. on_ok next (λ rest. Ok (front ++ rest)) ≡ whole) (sym (ap (map value_of) pushed ∙ map-append value_of c.loop-i.values (c.in_ok-v.v ∷ []))) kept

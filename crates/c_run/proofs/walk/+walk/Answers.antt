@@ -1,6 +1,5 @@
-use Rattle.std.proofs.lemmas.Result.{err_from_is_err_and}
-use Rattle.std.proofs.Common.{◌≡◌, ◌+◌, ◌-◌, ◌*◌, ◌<◌, suc, List, map, drop, Ok, Err, sym, ap, ◌∙◌, arith, subst}
-use Rattle.c_ast.specs.View.{stmt_of, stmts_of, call_of, expr_of}
+use Rattle.std.proofs.Common.{◌≡◌, ◌+◌, ◌-◌, suc, List, map, Ok, sym, ap, ◌∙◌, arith, subst}
+use Rattle.c_ast.specs.View.{stmts_of, call_of, expr_of}
 use Rattle.step_semantics.specs.Steps.{Part, give, after, block, tick}
 use Rattle.step_semantics.specs.Control.{again, turns}
 use Rattle.std.specs.List.{find}
@@ -21,7 +20,7 @@ use Rattle.c_meaning.specs.Statements.{exec_all, call_step}
 use Rattle.c_operators.specs.Values.{value_of}
 use Rattle.c_expressions.specs.Programs.{program_of}
 use Rattle.c_expressions.specs.State.{state_of}
-use Rattle.c_run.specs.Calls.{calls_of, weight, weights}
+use Rattle.c_run.specs.Calls.{calls_of, weights}
 use Rattle.c_run.proofs.Calls.{one_weight}
 use Rattle.c_run.proofs.Walks.{block_ends}
 use Rattle.c_run.proofs.walk.+walk.Goals as goal

@@ -1,7 +1,6 @@
 use Rattle.std.proofs.Common.{◌≡◌, ◌+◌, ◌*◌, ◌-◌, map, drop}
-use Rattle.std.specs.Prelude.{Some, None, Option}
 use Rattle.step_semantics.specs.Steps.{block}
-use Rattle.step_semantics.specs.Control.{forever, turns}
+use Rattle.step_semantics.specs.Control.{turns}
 use Rattle.c_ast.specs.View.{stmt_of, stmts_of, function_of, expr_of}
 use Rattle.c_meaning.specs.State.{leave}
 use Rattle.c_meaning.specs.Statements.{exec_all}

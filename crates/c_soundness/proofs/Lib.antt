@@ -6,3 +6,6 @@ pub mod Given
 pub mod Evaluated
 pub mod Outside
 pub mod Statements
+pub mod Functions
+pub mod Entries
+pub mod Units

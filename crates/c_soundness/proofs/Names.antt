@@ -43,7 +43,7 @@ swapped false true v e r differ = refl
 swapped false false v e r differ = refl
 
 -- a name that is new to a list may stand in it anywhere
-anywhere : {A : Type 0} (ds more : List (Name × A)) (k : Name) (v : A) → named (ds ++ more) k ≡ None → (x : Name) → named ((k, v) ∷ (ds ++ more)) x ≡ named (ds ++ (k, v) ∷ more) x
+pub anywhere : {A : Type 0} (ds more : List (Name × A)) (k : Name) (v : A) → named (ds ++ more) k ≡ None → (x : Name) → named ((k, v) ∷ (ds ++ more)) x ≡ named (ds ++ (k, v) ∷ more) x
 anywhere [] more k v none x = refl
 anywhere {A} (d ∷ ds) more k v none x =
     let apart = neither (same_word d.0 k) d.1 (named (ds ++ more) k) none in

@@ -62,7 +62,7 @@ module _ (u : TranslationUnit) (target : Target) where
 
   -- ---- replies
 
-  plain_held : (s : CScalar) (v : ℤ) → plain_fits (plain_of s) v ≡ true → CanHold target s v
+  pub plain_held : (s : CScalar) (v : ℤ) → plain_fits (plain_of s) v ≡ true → CanHold target s v
   plain_held Truth v h = grind (arith, ints)
   plain_held (Int kind) v h = h
 

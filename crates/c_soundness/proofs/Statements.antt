@@ -85,12 +85,12 @@ module _ (target : Target) (names : Names) where
         found = f.is;
         counted = eqb-true (length f.value.params) (length c.args) (subst (λ q. where_typed (λ s. length s.params == length c.args) q ≡ true) f.is (asked (others k)));
         result = second_known (result_may_be_given target names) wanted f.value.result
-          (subst (λ q. where_both (result_may_be_given target names) wanted (option_map (λ s. s.result) q) ≡ true) f.is (asked (others (others k))));
+            (subst (λ q. where_both (result_may_be_given target names) wanted (option_map (λ s. s.result) q) ≡ true) f.is (asked (others (others k))));
         at = behind at (c.name ++ codes "(");
         args = subst (λ q. Kept (args_demands target names (behind at (c.name ++ codes "(")) (params_of target names q) c.args)) f.is (others (others (others k)));
       }
 
-usable_is : (names : Names) → names.in_function ≡ true → usable names ≡ names.values
+pub usable_is : (names : Names) → names.in_function ≡ true → usable names ≡ names.values
 usable_is names h = ap (λ b. let r : List (Name × Entity) = if b then names.values else [] in r) h
 
 module _ (u : TranslationUnit) (target : Target) where
@@ -100,7 +100,7 @@ module _ (u : TranslationUnit) (target : Target) where
   -- what the table of functions says of each that may be called
   pub record CallsKeep (table : List (Name × Signature)) (functions : Calls) : Type 0 where
     pub keeps : (name : Name) (called : Signature) → named table name ≡ Some called → (values : List CValue) → AreGiven target called.params values → (n : ℕ) (w : World) (s : CState) → MemoryHeld target s.objects
-      → Keeps IsNotStuck (Called target called.result s) (call (watched u target) functions name values n w s)
+        → Keeps IsNotStuck (Called target called.result s) (call (watched u target) functions name values n w s)
 
   -- what a `return` gives
   abbrev pub Returns : CType → Option CValue → Type 0
@@ -167,7 +167,7 @@ module _ (u : TranslationUnit) (target : Target) where
         structs = inv.ready.structs;
         typed = All-cons (λ n. SlotIsTyped (table_of target) n.1) (x, slot) s.frames.own typed inv.ready.typed;
         covers = subst (λ ds. Covers (declared ds) (declared ((x, slot_entity slot) ∷ declarations p s))) (sym (usable_is (with_value names x (slot_entity slot)) inv.in_function))
-          (covers_more x (slot_entity slot) names.values (declarations p s) (subst (λ ds. Covers (declared ds) (declared (declarations p s))) (usable_is names inv.in_function) inv.ready.covers));
+            (covers_more x (slot_entity slot) names.values (declarations p s) (subst (λ ds. Covers (declared ds) (declared (declarations p s))) (usable_is names inv.in_function) inv.ready.covers));
         memory = held;
       };
       in_function = inv.in_function;

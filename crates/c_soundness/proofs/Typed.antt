@@ -150,8 +150,8 @@ module _ (target : Target) (names : Names) where
         record {
           tags = and_from (tags_known names c && tags_known names a) (tags_known names b) (and_from (tags_known names c) (tags_known names a) x.tags y.tags) z.tags;
           found = then_found (λ test. of_both (of_choice t test) (said a) (said b)) (said c) x.found.value x.found.is
-            (both_found (of_choice t x.found.value) (said a) (said b) y.found.value z.found.value y.found.is z.found.is
-            (choice_is t x.found.value y.found.value z.found.value (test_of is_number c x more.0) (test_of is_number a y more.1) (test_of is_number b z tests.1)));
+              (both_found (of_choice t x.found.value) (said a) (said b) y.found.value z.found.value y.found.is z.found.is
+              (choice_is t x.found.value y.found.value z.found.value (test_of is_number c x more.0) (test_of is_number a y more.1) (test_of is_number b z tests.1)));
         }
 
     pub place_is : (place : Place) (at : ℕ) → Kept (place_demands target names at place) → PlaceIs place
@@ -166,7 +166,7 @@ module _ (target : Target) (names : Names) where
         record {
           tags = x.tags;
           found = then_found (of_member m) (said_place place) x.found.value x.found.is
-            (member_is m x.found.value (place_test is_struct place x (asked k)) (place_test (has_member m) place x (asked (rest _ _ (others k)))));
+              (member_is m x.found.value (place_test is_struct place x (asked k)) (place_test (has_member m) place x (asked (rest _ _ (others k)))));
         }
     place_is (Element place e) at k =
         let x = place_is place _ (front _ _ (front _ _ (others k))) in
@@ -174,5 +174,5 @@ module _ (target : Target) (names : Names) where
         record {
           tags = and_from (place_tags_known names place) (tags_known names e) x.tags y.tags;
           found = both_found of_element (said_place place) (said e) x.found.value y.found.value x.found.is y.found.is
-            (element_is x.found.value y.found.value (place_test is_array place x (asked k)) (test_of is_number e y (asked (rest _ _ (front _ _ (others k))))));
+              (element_is x.found.value y.found.value (place_test is_array place x (asked k)) (test_of is_number e y (asked (rest _ _ (front _ _ (others k))))));
         }

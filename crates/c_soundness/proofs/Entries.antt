@@ -103,8 +103,8 @@ module _ (u : TranslationUnit) (target : Target) where
   function_is table objects at f k =
       let name_kept = rest _ _ (front _ _ (front _ _ k)) in
       record {
-        is = record { params_at = _; body_at = _; new = new_is (file_scope u.structs table objects) f.name (asked (others name_kept)); params = rest _ _ (front _ _ k); body = rest _ _ k };
-        of_file = asked name_kept;
+        is = record { params_at = _; body_at = _; new = new_is (file_scope u.structs table objects) f.name (asked (others name_kept) refl); params = rest _ _ (front _ _ k); body = rest _ _ k };
+        of_file = asked name_kept refl;
       }
 
   has_the_prefix : (table : List (Name × Signature)) (objects : List (Name × Entity)) (f : Function) → Grounded u target table → FileFunction table objects f → has_prefix f.name ≡ true

@@ -90,7 +90,7 @@ module _ (u : TranslationUnit) (target : Target) where
     given_is_good at ty e k =
         let x = expr_is target names e at (others k) in
         good_weaker (IsOf target x.found.value) (IsGiven target ty) (eval p e s)
-        (λ v is. record { typed = is.typed; may = subst (λ q. may_be_given q ty ≡ true) (sym is.of_type) (test_of target names (λ v. may_be_given v ty) e x (asked k)) })
+        (λ v is. record { typed = is.typed; may = subst (λ q. may_be_given q ty ≡ true) (sym is.of_type) (test_of target names (λ v. may_be_given v ty) e x (asked k refl)) })
         (expr_good e x)
 
     truth_of : (v : CValue) → is_number (held_type v) ≡ true → Good (λ holds. ⊤) (is_true v)
@@ -128,26 +128,26 @@ module _ (u : TranslationUnit) (target : Target) where
     mutual
       pub init_good : (a : CTree) (i : Init) (at : ℕ) → Kept (init_demands target names at a i) → Good (IsInit (λ k v. IsGiven target (Value k) v) a) (eval_init p i s)
       init_good (Leaf k) (One e) at h = good_on_ok (IsScalarValue k) (Inited (Leaf k)) (eval p e s) (λ v. Ok (inits.One v)) (given_is_good at (Value k) e h) (λ v is. is)
-      init_good (Leaf k) Zero at h = let no : ⊥ = (let e = asked h in cc) in absurd no
-      init_good (Leaf k) (Many is) at h = let no : ⊥ = (let e = asked h in cc) in absurd no
-      init_good (trees.Many n a) (One e) at h = let no : ⊥ = (let e = asked h in cc) in absurd no
+      init_good (Leaf k) Zero at h = let no : ⊥ = (let e = asked h refl in cc) in absurd no
+      init_good (Leaf k) (Many is) at h = let no : ⊥ = (let e = asked h refl in cc) in absurd no
+      init_good (trees.Many n a) (One e) at h = let no : ⊥ = (let e = asked h refl in cc) in absurd no
       init_good (trees.Many n a) Zero at h = tt
       init_good (trees.Many n a) (Many is) at h =
           good_on_ok (EachInit n (Inited a)) (Inited (trees.Many n a)) (eval_inits p is s) (λ vs. Ok (inits.Braces vs)) (elements_good n a is _ h) (λ vs each. each)
-      init_good (Struct k r) (One e) at h = let no : ⊥ = (let e = asked h in cc) in absurd no
+      init_good (Struct k r) (One e) at h = let no : ⊥ = (let e = asked h refl in cc) in absurd no
       init_good (Struct k r) Zero at h = tt
       init_good (Struct k r) (Many is) at h = good_on_ok (InitedRow r) (Inited (Struct k r)) (eval_inits p is s) (λ vs. Ok (inits.Braces vs)) (members_good r is _ h) (λ vs each. each)
 
       elements_good : (n : ℕ) (a : CTree) (is : Inits) (at : ℕ) → Kept (elements_demands target names at n a is) → Good (EachInit n (Inited a)) (eval_inits p is s)
       elements_good n a NoInits at h = tt
-      elements_good zero a (MoreInits i is) at h = let no : ⊥ = (let e = asked h in cc) in absurd no
+      elements_good zero a (MoreInits i is) at h = let no : ⊥ = (let e = asked h refl in cc) in absurd no
       elements_good (suc n) a (MoreInits i is) at h =
           good_on_ok (Inited a) (EachInit (suc n) (Inited a)) (eval_init p i s) (λ v. on_ok (eval_inits p is s) (λ vs. Ok (inits.More v vs))) (init_good a i at (front _ _ h))
           (λ v first. good_on_ok (EachInit n (Inited a)) (EachInit (suc n) (Inited a)) (eval_inits p is s) (λ vs. Ok (inits.More v vs)) (elements_good n a is _ (rest (init_demands target names at a i) _ h)) (λ vs more. (first, more)))
 
       members_good : (r : CRow) (is : Inits) (at : ℕ) → Kept (members_demands target names at r is) → Good (InitedRow r) (eval_inits p is s)
       members_good r NoInits at h = tt
-      members_good End (MoreInits i is) at h = let no : ⊥ = (let e = asked h in cc) in absurd no
+      members_good End (MoreInits i is) at h = let no : ⊥ = (let e = asked h refl in cc) in absurd no
       members_good (Field f a r) (MoreInits i is) at h =
           good_on_ok (Inited a) (InitedRow (Field f a r)) (eval_init p i s) (λ v. on_ok (eval_inits p is s) (λ vs. Ok (inits.More v vs))) (init_good a i at (front _ _ h))
           (λ v first. good_on_ok (InitedRow r) (InitedRow (Field f a r)) (eval_inits p is s) (λ vs. Ok (inits.More v vs)) (members_good r is _ (rest (init_demands target names at a i) _ h)) (λ vs more. (first, more)))

@@ -83,7 +83,7 @@ module _ (target : Target) where
   absent (x ∷ xs) (a ∷ args) names at k e more there none kept held =
       let v : Entity = ConstName (held_type a) in
       let next : Names = with_value names x.name v in
-      let new = new_is names x.name (asked (rest _ _ (front _ _ kept))) in
+      let new = new_is names x.name (asked (rest _ _ (front _ _ kept)) refl) in
       let differ = differs names.values x.name k e new.no_value there in
       let later = subst (λ q. Kept (params_demands q (behind at (param_text x ++ codes ", ")) xs)) (const_is names x.name x.ty a held.0) (rest _ _ kept) in
       passed (map local_entity (bound xs args) ++ more) x.name k v differ
@@ -106,7 +106,7 @@ module _ (target : Target) where
   params_in (x ∷ xs) (a ∷ args) names at more kept held alike =
       let v : Entity = ConstName (held_type a) in
       let next : Names = with_value names x.name v in
-      let new = new_is names x.name (asked (rest _ _ (front _ _ kept))) in
+      let new = new_is names x.name (asked (rest _ _ (front _ _ kept)) refl) in
       let later = subst (λ q. Kept (params_demands q (behind at (param_text x ++ codes ", ")) xs)) (const_is names x.name x.ty a held.0) (rest _ _ kept) in
       let r = params_in xs args next _ ((x.name, v) ∷ more) later held.1 (alike_cons x.name v names.values more alike) in
       let none = absent xs args next _ x.name v more (ap (λ b. let q : Option Entity = if b then Some v else named names.values x.name in q) (same_self x.name)) (sym (alike.at x.name) ∙ new.no_value) later held.1 in

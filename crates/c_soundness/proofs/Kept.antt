@@ -5,17 +5,22 @@ use Rattle.std.specs.Option.{is_some, option_map, option_and_then}
 use Rattle.std.proofs.lemmas.List.Elements.{All-head, All-tail, All-nil, All-cons}
 use Rattle.c_text.specs.Right.{IsKept}
 use Rattle.c_text.specs.Rules.{Demand, where_typed}
+use Rattle.c_soundness.specs.Laws.{matters}
+
+-- kept, where the rule matters
+abbrev Matters : Demand → Type 0
+Matters d = matters d.rule ≡ true → IsKept d
 
 pub record Kept (ds : List Demand) : Type 0 where
-  pub all : All IsKept ds
+  pub all : All (λ d. matters d.rule ≡ true → IsKept d) ds
 
-front_of : (xs ys : List Demand) → All IsKept (xs ++ ys) → All IsKept xs
-front_of [] ys h = All-nil IsKept
-front_of (x ∷ xs) ys h = All-cons IsKept x xs (All-head IsKept x (xs ++ ys) h) (front_of xs ys (All-tail IsKept x (xs ++ ys) h))
+front_of : (xs ys : List Demand) → All Matters (xs ++ ys) → All Matters xs
+front_of [] ys h = All-nil Matters
+front_of (x ∷ xs) ys h = All-cons Matters x xs (All-head Matters x (xs ++ ys) h) (front_of xs ys (All-tail Matters x (xs ++ ys) h))
 
-rest_of : (xs ys : List Demand) → All IsKept (xs ++ ys) → All IsKept ys
+rest_of : (xs ys : List Demand) → All Matters (xs ++ ys) → All Matters ys
 rest_of [] ys h = h
-rest_of (x ∷ xs) ys h = rest_of xs ys (All-tail IsKept x (xs ++ ys) h)
+rest_of (x ∷ xs) ys h = rest_of xs ys (All-tail Matters x (xs ++ ys) h)
 
 pub front : (xs ys : List Demand) → Kept (xs ++ ys) → Kept xs
 front xs ys h = record { all = front_of xs ys h.all }
@@ -23,11 +28,16 @@ front xs ys h = record { all = front_of xs ys h.all }
 pub rest : (xs ys : List Demand) → Kept (xs ++ ys) → Kept ys
 rest xs ys h = record { all = rest_of xs ys h.all }
 
-pub asked : {d : Demand} {ds : List Demand} → Kept (d ∷ ds) → d.kept ≡ true
-asked {d} {ds} h = All-head IsKept d ds h.all
+pub asked : {d : Demand} {ds : List Demand} → Kept (d ∷ ds) → matters d.rule ≡ true → d.kept ≡ true
+asked {d} {ds} h rule = All-head Matters d ds h.all rule
 
 pub others : {d : Demand} {ds : List Demand} → Kept (d ∷ ds) → Kept ds
-others {d} {ds} h = record { all = All-tail IsKept d ds h.all }
+others {d} {ds} h = record { all = All-tail Matters d ds h.all }
+
+-- where all are kept, those are that matter
+pub right_kept : (ds : List Demand) → All IsKept ds → All (λ d. matters d.rule ≡ true → IsKept d) ds
+right_kept [] h = All-nil Matters
+right_kept (d ∷ ds) h = All-cons Matters d ds (λ rule. All-head IsKept d ds h) (right_kept ds (All-tail IsKept d ds h))
 
 -- ---- what there is
 

@@ -48,7 +48,7 @@ use Rattle.c_soundness.proofs.Given.{Good, good_on_ok, answered_good, good_given
 use Rattle.c_soundness.proofs.Evaluated.{Ready, place_good, given_is_good, tested_is_good, args_good, init_good, number_good, made_good}
 use Rattle.c_soundness.proofs.Outside.{Called}
 
--- ---- what is asked of calls, and of what is assigned to
+-- ---- what is asked of refl calls, and of what is assigned to
 
 scalar_place : (q : PlaceType) (k : CScalar) → assigned_scalar q ≡ Some k → q ≡ Stored false (Leaf k)
 scalar_place (Held v) k h = let no : ⊥ = cc in absurd no
@@ -72,20 +72,20 @@ module _ (target : Target) (names : Names) where
     at : ℕ
     args : Kept (args_demands target names at called.params c.args)
 
-  -- what is asked of two things, once the second is known
+  -- what is asked of refl two things, once the second is known
   second_known : {A B : Type 0} (f : A → B → Bool) (w : Option A) (b : B) → where_both f w (Some b) ≡ true → where_typed (λ a. f a b) w ≡ true
   second_known f None b h = refl
   second_known f (Some a) b h = h
 
   call_is : (at : ℕ) (wanted : Option CType) (c : FunctionCall) → Kept (call_demands target names at wanted c) → CallIs wanted c
   call_is at wanted c k =
-      let f = found (named names.functions c.name) (asked k) in
+      let f = found (named names.functions c.name) (asked k refl) in
       record {
         called = f.value;
         found = f.is;
-        counted = eqb-true (length f.value.params) (length c.args) (subst (λ q. where_typed (λ s. length s.params == length c.args) q ≡ true) f.is (asked (others k)));
+        counted = eqb-true (length f.value.params) (length c.args) (subst (λ q. where_typed (λ s. length s.params == length c.args) q ≡ true) f.is (asked (others k) refl));
         result = second_known (result_may_be_given target names) wanted f.value.result
-            (subst (λ q. where_both (result_may_be_given target names) wanted (option_map (λ s. s.result) q) ≡ true) f.is (asked (others (others k))));
+            (subst (λ q. where_both (result_may_be_given target names) wanted (option_map (λ s. s.result) q) ≡ true) f.is (asked (others (others k)) refl));
         at = behind at (c.name ++ codes "(");
         args = subst (λ q. Kept (args_demands target names (behind at (c.name ++ codes "(")) (params_of target names q) c.args)) f.is (others (others (others k)));
       }
@@ -309,21 +309,21 @@ module _ (u : TranslationUnit) (target : Target) where
           keeps_tick IsNotStuck (After (with_value names x (ObjectName false b)) in_loop) (object p x b) n w s
           (λ m. named_within names x (Naming (length s.objects) b) s ((memory_of target).create s.objects (tree u.structs b)) tt (create_held target s.objects (tree u.structs b) inv.ready.memory) inv)
       exec_keeps (Object x b (Some i)) names in_loop braces at k n w s inv = initialized_keeps names x b i _ (rest _ _ k) in_loop n w s inv
-      exec_keeps (Assign place e) names in_loop braces at k n w s inv = assignment_keeps names place e _ _ (asked k) (front _ _ (others k)) (rest _ _ (others k)) in_loop n w s inv
+      exec_keeps (Assign place e) names in_loop braces at k n w s inv = assignment_keeps names place e _ _ (asked k refl) (front _ _ (others k)) (rest _ _ (others k)) in_loop n w s inv
       exec_keeps (If e a) names in_loop braces at k n w s inv =
-          truth_keeps (After names in_loop) names _ e (asked k) (front _ _ (others k)) _ n w s inv
+          truth_keeps (After names in_loop) names _ e (asked k refl) (front _ _ (others k)) _ n w s inv
           (λ holds m. keeps_choice IsNotStuck (After names in_loop) holds (block leave (exec_all p functions a)) (give Falls) m w s
           (λ is. block_of (exec_all p functions a) names in_loop m w s inv (exec_all_keeps a names in_loop _ _ (rest _ _ (others k)) m w s inv)) inv)
       exec_keeps (IfElse e a b) names in_loop braces at k n w s inv =
-          truth_keeps (After names in_loop) names _ e (asked k) (front _ _ (front _ _ (others k))) _ n w s inv
+          truth_keeps (After names in_loop) names _ e (asked k refl) (front _ _ (front _ _ (others k))) _ n w s inv
           (λ holds m. keeps_choice IsNotStuck (After names in_loop) holds (block leave (exec_all p functions a)) (block leave (exec_all p functions b)) m w s
           (λ is. block_of (exec_all p functions a) names in_loop m w s inv (exec_all_keeps a names in_loop _ _ (rest _ _ (front _ _ (others k))) m w s inv))
           (block_of (exec_all p functions b) names in_loop m w s inv (exec_all_keeps b names in_loop _ _ (rest _ _ (others k)) m w s inv)))
       exec_keeps (Forever body) names in_loop braces at k n w s inv =
           keeps_forever IsNotStuck (LeftBlock names true) (After names in_loop) (λ v h. h.1) (λ value v h. (h.0, still names v h.1)) (block leave (exec_all p functions body))
           (λ v h m later. left_of (exec_all p functions body) names true m later v h (exec_all_keeps body names true _ _ k m later v h)) n w s inv
-      exec_keeps Break names in_loop braces at k n w s inv = keeps_tick IsNotStuck (After names in_loop) (give Broke) n w s (λ m. (asked k, still names s inv))
-      exec_keeps (Return None) names in_loop braces at k n w s inv = keeps_tick IsNotStuck (After names in_loop) (give (Returned None)) n w s (λ m. (void_is result (asked k), still names s inv))
+      exec_keeps Break names in_loop braces at k n w s inv = keeps_tick IsNotStuck (After names in_loop) (give Broke) n w s (λ m. (asked k refl, still names s inv))
+      exec_keeps (Return None) names in_loop braces at k n w s inv = keeps_tick IsNotStuck (After names in_loop) (give (Returned None)) n w s (λ m. (void_is result (asked k refl), still names s inv))
       exec_keeps (Return (Some e)) names in_loop braces at k n w s inv =
           value_keeps (After names in_loop) names _ result e (others k) (λ v. give (Returned (Some v))) n w s inv (λ v h m. (h, still names s inv))
       exec_keeps (Block body) names in_loop braces at k n w s inv = block_of (exec_all p functions body) names in_loop n w s inv (exec_all_keeps body names in_loop _ _ k n w s inv)

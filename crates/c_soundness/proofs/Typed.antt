@@ -100,7 +100,7 @@ module _ (target : Target) (names : Names) where
   type_tags Void at k = refl
   type_tags (Value s) at k = refl
   type_tags (Pointer constant (base.Scalar s)) at k = refl
-  type_tags (Pointer constant (base.Struct tag)) at k = asked k
+  type_tags (Pointer constant (base.Struct tag)) at k = asked k refl
 
   -- a test of the type of a part
   pub test_of : (test : ValueType → Bool) (e : Expr) (x : ExprIs e) → where_typed test (type_of target names e) ≡ true → test x.found.value ≡ true
@@ -114,23 +114,23 @@ module _ (target : Target) (names : Names) where
 
   mutual
     pub expr_is : (e : Expr) (at : ℕ) → Kept (expr_demands target names at e) → ExprIs e
-    expr_is (Number v suffix) at k = record { tags = refl; found = found_map _ (constant_type target suffix v) (found (constant_type target suffix v) (asked k)) }
+    expr_is (Number v suffix) at k = record { tags = refl; found = found_map _ (constant_type target suffix v) (found (constant_type target suffix v) (asked k refl)) }
     expr_is (Read place) at k =
         let x = place_is place _ (others k) in
-        record { tags = x.tags; found = then_found of_read (said_place place) x.found.value x.found.is (found (of_read x.found.value) (place_test (λ p. is_some (of_read p)) place x (asked k))) }
+        record { tags = x.tags; found = then_found of_read (said_place place) x.found.value x.found.is (found (of_read x.found.value) (place_test (λ p. is_some (of_read p)) place x (asked k refl))) }
     expr_is (Address place) at k =
         let x = place_is place _ (others k) in
         record {
           tags = x.tags;
-          found = then_found of_address (said_place place) x.found.value x.found.is (found (of_address x.found.value) (place_test (λ p. is_some (of_address p)) place x (and_parts _ _ (asked k)).1));
+          found = then_found of_address (said_place place) x.found.value x.found.is (found (of_address x.found.value) (place_test (λ p. is_some (of_address p)) place x (and_parts _ _ (asked k refl)).1));
         }
     expr_is (Unary op e) at k =
         let x = expr_is e _ (others k) in
-        record { tags = x.tags; found = then_found (of_unary t op) (said e) x.found.value x.found.is (unary_is t op x.found.value (test_of is_number e x (asked k))) }
+        record { tags = x.tags; found = then_found (of_unary t op) (said e) x.found.value x.found.is (unary_is t op x.found.value (test_of is_number e x (asked k refl))) }
     expr_is (Binary op a b) at k =
         let x = expr_is a _ (front _ _ (others k)) in
         let y = expr_is b _ (rest _ _ (others k)) in
-        let tests = and_parts _ _ (asked k) in
+        let tests = and_parts _ _ (asked k refl) in
         record {
           tags = and_from (tags_known names a) (tags_known names b) x.tags y.tags;
           found = both_found (of_binary t op) (said a) (said b) x.found.value y.found.value x.found.is y.found.is (binary_is t op x.found.value y.found.value (test_of is_number a x tests.0) (test_of is_number b y tests.1));
@@ -139,13 +139,13 @@ module _ (target : Target) (names : Names) where
         let x = expr_is e _ (rest _ _ (others k)) in
         record {
           tags = and_from (is_known_type names to) (tags_known names e) (type_tags to _ (front _ _ (others k))) x.tags;
-          found = then_found (of_cast to) (said e) x.found.value x.found.is (found (of_cast to x.found.value) (test_of (λ v. is_some (of_cast to v)) e x (asked k)));
+          found = then_found (of_cast to) (said e) x.found.value x.found.is (found (of_cast to x.found.value) (test_of (λ v. is_some (of_cast to v)) e x (asked k refl)));
         }
     expr_is (Cond c a b) at k =
         let x = expr_is c _ (front _ _ (front _ _ (others k))) in
         let y = expr_is a _ (rest _ _ (front _ _ (others k))) in
         let z = expr_is b _ (rest _ _ (others k)) in
-        let tests = and_parts _ _ (asked k) in
+        let tests = and_parts _ _ (asked k refl) in
         let more = and_parts _ _ tests.0 in
         record {
           tags = and_from (tags_known names c && tags_known names a) (tags_known names b) (and_from (tags_known names c) (tags_known names a) x.tags y.tags) z.tags;
@@ -156,17 +156,17 @@ module _ (target : Target) (names : Names) where
 
     pub place_is : (place : Place) (at : ℕ) → Kept (place_demands target names at place) → PlaceIs place
     place_is (Var x) at k =
-        let u = used_name (is_value names x) (is_function names x) names.in_function (asked k) (asked (others k)) (asked (others (others k))) in
+        let u = used_name (is_value names x) (is_function names x) names.in_function (asked k refl) (asked (others k) refl) (asked (others (others k)) refl) in
         record { tags = refl; found = var_found x (found (named names.values x) u.0) u.1 }
     place_is (At e) at k =
         let x = expr_is e _ (others k) in
-        record { tags = x.tags; found = then_found (of_pointee names.structs) (said e) x.found.value x.found.is (pointee_is names.structs x.found.value (test_of is_pointer e x (asked k))) }
+        record { tags = x.tags; found = then_found (of_pointee names.structs) (said e) x.found.value x.found.is (pointee_is names.structs x.found.value (test_of is_pointer e x (asked k refl))) }
     place_is (Member place m) at k =
         let x = place_is place _ (front _ _ (others k)) in
         record {
           tags = x.tags;
           found = then_found (of_member m) (said_place place) x.found.value x.found.is
-              (member_is m x.found.value (place_test is_struct place x (asked k)) (place_test (has_member m) place x (asked (rest _ _ (others k)))));
+              (member_is m x.found.value (place_test is_struct place x (asked k refl)) (place_test (has_member m) place x (asked (rest _ _ (others k)) refl)));
         }
     place_is (Element place e) at k =
         let x = place_is place _ (front _ _ (front _ _ (others k))) in
@@ -174,5 +174,5 @@ module _ (target : Target) (names : Names) where
         record {
           tags = and_from (place_tags_known names place) (tags_known names e) x.tags y.tags;
           found = both_found of_element (said_place place) (said e) x.found.value y.found.value x.found.is y.found.is
-              (element_is x.found.value y.found.value (place_test is_array place x (asked k)) (test_of is_number e y (asked (rest _ _ (front _ _ (others k))))));
+              (element_is x.found.value y.found.value (place_test is_array place x (asked k refl)) (test_of is_number e y (asked (rest _ _ (front _ _ (others k))) refl)));
         }

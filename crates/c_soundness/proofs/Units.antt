@@ -26,7 +26,6 @@ use Rattle.c_ast.specs.Structs.{tree}
 use Rattle.c_ast.specs.Syntax.{Name, FileObject, Function, TranslationUnit}
 use Rattle.c_ast.specs.Targets.{table_of}
 use Rattle.c_text.specs.ExpressionRules.{init_demands}
-use Rattle.c_text.specs.Right.{Right}
 use Rattle.c_text.specs.Scopes.{Names}
 use Rattle.c_text.specs.Subset.{ExternInSubset, InSubset}
 use Rattle.c_text.specs.UnitRules.{file_scope, functions_demands, objects_demands, externs_demands, structs_demands, unit_demands}
@@ -39,8 +38,8 @@ use Rattle.c_meaning.specs.Initializers.{eval_init, made_with}
 use Rattle.c_meaning.specs.Calls.{CallResult, Calls, no_functions, stop_call, call_found, call}
 use Rattle.c_meaning.specs.Runs.{entry, file_objects, first_state_of, run_from}
 use Rattle.c_meaning.specs.Laws.{no_site, watched, IsNotStuck}
-use Rattle.c_soundness.specs.Laws.{RightUnitsAreNeverStuck}
-use Rattle.c_soundness.proofs.Kept.{Kept, front, rest, asked, others}
+use Rattle.c_soundness.specs.Laws.{KeepsWhatMatters, NeverStuckLaws}
+use Rattle.c_soundness.proofs.Kept.{Kept, front, rest, asked, others, right_kept}
 use Rattle.c_soundness.proofs.Names.{same_self, same_equal, Alike, alike_more, Covers}
 use Rattle.c_soundness.proofs.HeldMemory.{MemoryHeld, nothing_held}
 use Rattle.c_soundness.proofs.Given.{Good, good_on_ok, IsGiven, AreGiven}
@@ -160,7 +159,7 @@ module _ (target : Target) (u : TranslationUnit) where
   objects_in [] table objects es at fs alike k = record { objects = objects; at = at; alike = subst (Alike objects) (sym (append-nil es)) alike; first_values = tt; kept = k }
   objects_in (o ∷ os) table objects es at fs alike k =
       let own = front _ _ k in
-      let new = new_is (file_scope u.structs table objects) o.name (asked (others (rest _ _ (front _ _ own)))) in
+      let new = new_is (file_scope u.structs table objects) o.name (asked (others (rest _ _ (front _ _ own))) refl) in
       let more = objects_in os table ((o.name, ObjectName o.constant o.base) ∷ objects) (es ++ (o.name, ObjectName o.constant o.base) ∷ []) _ fs (alike_last objects es o.name (ObjectName o.constant o.base) alike new.no_value) (rest _ _ k) in
       record {
         objects = more.objects;
@@ -179,7 +178,7 @@ module _ (target : Target) (u : TranslationUnit) where
   externs_in : (xs : List CExtern) (table es : List (Name × Signature)) (at : ℕ) (os : List FileObject) (fs : List Function) → Alike table es → Kept (externs_demands target u.structs table at xs os fs) → ExternsIn es xs os fs
   externs_in [] table es at os fs alike k = record { table = table; at = at; alike = subst (Alike table) (sym (append-nil es)) alike; kept = k }
   externs_in (x ∷ xs) table es at os fs alike k =
-      let new = new_is (file_scope u.structs table []) x.name (asked (others (rest _ _ (front _ _ (front _ _ k))))) in
+      let new = new_is (file_scope u.structs table []) x.name (asked (others (rest _ _ (front _ _ (front _ _ k)))) refl) in
       let more = externs_in xs ((x.name, extern_signature x) ∷ table) (es ++ (x.name, extern_signature x) ∷ []) _ os fs (alike_last table es x.name (extern_signature x) alike new.no_function) (rest _ _ k) in
       record { table = more.table; at = more.at; alike = subst (Alike more.table) (append_assoc es ((x.name, extern_signature x) ∷ []) (map of_extern xs)) more.alike; kept = more.kept }
 
@@ -215,11 +214,11 @@ module _ (target : Target) (u : TranslationUnit) where
   undefined_is_other : (reason : _) (script : Script) (n : ℕ) → (run_from p (Err (Undefined reason)) script n).end ≢ Stopped no_site
   undefined_is_other reason script n = λ e. cc
 
-  run_not_stuck : InSubset u → Right target u → (script : Script) → Fits script (c_exports u) → (n : ℕ) → (run_from p (first_state_of p u.objects) script n).end ≢ Stopped no_site
-  run_not_stuck subset right script fits n = by (first_state_of p u.objects) (first_good in_objects.first_values)
+  run_not_stuck : InSubset u → KeepsWhatMatters target u → (script : Script) → Fits script (c_exports u) → (n : ℕ) → (run_from p (first_state_of p u.objects) script n).end ≢ Stopped no_site
+  run_not_stuck subset kept script fits n = by (first_state_of p u.objects) (first_good in_objects.first_values)
     where
       in_structs : StructsIn u.structs
-      in_structs = structs_in u.structs [] _ (record { all = right.kept })
+      in_structs = structs_in u.structs [] _ (record { all = kept })
 
       in_externs : ExternsIn ((stop_name, stop_signature) ∷ []) u.externs u.objects u.functions
       in_externs = externs_in u.externs ((stop_name, stop_signature) ∷ []) ((stop_name, stop_signature) ∷ []) in_structs.at u.objects u.functions (record { at = λ x. refl }) in_structs.kept
@@ -236,5 +235,9 @@ module _ (target : Target) (u : TranslationUnit) where
       by (Err (Undefined reason)) held e = undefined_is_other reason script n e
       by (Err Stuck) held e = absurd held
 
-pub right_units_are_never_stuck : RightUnitsAreNeverStuck
-right_units_are_never_stuck target u subset right script fits n = run_not_stuck target u subset right script fits n
+pub never_stuck_laws : NeverStuckLaws
+never_stuck_laws = record {
+  kept = λ target u subset kept. run_not_stuck target u subset kept;
+  right = λ target u subset right. run_not_stuck target u subset (right_kept (unit_demands target u) right.kept);
+  read_back = λ target u bytes back. run_not_stuck target u back.spelled.in_subset (right_kept (unit_demands target u) back.right.kept);
+}

@@ -1,5 +1,5 @@
 -- Entry calls that fit are not stuck: the function that the outside means is the one that it finds.
-use Rattle.std.proofs.Common.{◌≡◌, ℕ, ℤ, Bool, true, false, not, List, [], ◌∷◌, map, take, drop, length, Option, Some, None, Result, Ok, Err, refl, sym, subst, ap, ◌∙◌}
+use Rattle.std.proofs.Common.{◌≡◌, ℕ, ℤ, Bool, true, false, not, List, [], ◌∷◌, map, take, drop, Option, Some, None, Ok, refl, sym, subst, ap, ◌∙◌}
 use Rattle.std.specs.Prelude.{⊤, ◌++◌, ◌&&◌, ◌||◌, if◌then◌else◌}
 use Rattle.std.specs.Option.{option_map, option_and_then}
 use Rattle.std.proofs.lemmas.Bool.{and_parts, false_from_ne_true}
@@ -15,18 +15,17 @@ use Rattle.c_ast.specs.declared.CBase.{CBase}
 use Rattle.c_ast.specs.declared.CKind.TheVariants.{Scalar}
 use Rattle.c_ast.specs.declared.CParam.{CParam}
 use Rattle.c_ast.specs.declared.CScalar.{CScalar}
-use Rattle.c_ast.specs.declared.CScalar.TheVariants.{Truth, Int}
 use Rattle.c_ast.specs.declared.CType.{CType}
 use Rattle.c_ast.specs.declared.CType.TheVariants.{Void, Value, Pointer}
 use Rattle.c_ast.specs.declared.Target.{Target}
 use Rattle.c_ast.specs.Exports.{plain_of, plain_param, plain_params, plain_result, export_as, exports_by, exports_among}
 use Rattle.c_ast.specs.Names.{named, prefix, has_prefix, outer_name, stop_name}
 use Rattle.c_ast.specs.Signatures.{Signature, function_signature}
-use Rattle.c_ast.specs.StaticTypes.{ValueType, PointerTo, Entity, value_type}
+use Rattle.c_ast.specs.StaticTypes.{PointerTo, Entity, value_type}
 use Rattle.c_ast.specs.Syntax.{Name, Function, TranslationUnit}
 use Rattle.c_text.specs.Scopes.{is_of_file}
 use Rattle.c_text.specs.UnitRules.{file_scope, function_demands, functions_demands}
-use Rattle.c_meaning.specs.Values.{CValue, Num, Ptr, on_ok}
+use Rattle.c_meaning.specs.Values.{Num, Ptr}
 use Rattle.c_meaning.specs.State.{Program, CState}
 use Rattle.c_meaning.specs.Scopes.{file_entity}
 use Rattle.c_meaning.specs.Calls.{CallResult, Nothing, Missing, Gave, Calls}
@@ -35,8 +34,8 @@ use Rattle.c_meaning.specs.Laws.{watched, IsNotStuck}
 use Rattle.c_soundness.proofs.Kept.{Kept, front, rest, asked, others}
 use Rattle.c_soundness.proofs.Names.{same_self, same_equal, Alike}
 use Rattle.c_soundness.proofs.HeldMemory.{MemoryHeld}
-use Rattle.c_soundness.proofs.Given.{Good, good_on_ok, good_given, IsGiven, AreGiven}
-use Rattle.c_soundness.proofs.Outside.{Gives, Called, plain_held}
+use Rattle.c_soundness.proofs.Given.{Good, good_on_ok, good_given, AreGiven}
+use Rattle.c_soundness.proofs.Outside.{Called, plain_held}
 use Rattle.c_soundness.proofs.Statements.{CallsKeep}
 use Rattle.c_soundness.proofs.Functions.{new_is, differs, passed, FunctionIs, function_keeps, Grounded, grounded_more, with_function_keeps}
 

@@ -1,5 +1,5 @@
 -- What expressions, places, arguments and initializers come to where their demands are kept, in a state that has their names.
-use Rattle.std.proofs.Common.{◌≡◌, ℕ, zero, suc, ℤ, pos, Bool, true, false, List, [], ◌∷◌, length, map, Option, Some, None, Result, Ok, Err, refl, sym, ap, subst, arith, ◌∙◌}
+use Rattle.std.proofs.Common.{◌≡◌, ℕ, zero, suc, ℤ, pos, Bool, true, List, [], ◌∷◌, length, Option, Some, Result, Ok, Err, refl, sym, subst, arith}
 use Rattle.std.specs.Prelude.{⊤, IsTrue}
 use Rattle.std.proofs.lemmas.List.{map-id}
 use Rattle.iv_words.specs.Kinds.{in_range}
@@ -21,11 +21,11 @@ use Rattle.c_ast.specs.declared.CType.{CType}
 use Rattle.c_ast.specs.declared.CType.TheVariants.{Value}
 use Rattle.c_ast.specs.declared.Target.{Target}
 use Rattle.c_ast.specs.Scalars.{metric_of}
-use Rattle.c_ast.specs.StaticTypes.{ValueType, Arithmetic, PlaceType, Scope, declared, may_be_given, expr_type, place_type}
+use Rattle.c_ast.specs.StaticTypes.{ValueType, PlaceType, declared, may_be_given, expr_type, place_type}
 use Rattle.c_ast.specs.Structs.{CTree, CRow}
 use Rattle.c_ast.specs.Syntax.{Expr, Place, Init, One, Zero, Many, Inits, NoInits, MoreInits, TranslationUnit}
 use Rattle.c_ast.specs.Targets.{table_of}
-use Rattle.c_text.specs.ExpressionRules.{is_number, type_of, expr_demands, place_demands, given_demands, args_demands, init_demands, elements_demands, members_demands}
+use Rattle.c_text.specs.ExpressionRules.{is_number, type_of, expr_demands, given_demands, args_demands, init_demands, elements_demands, members_demands}
 use Rattle.c_text.specs.Rules.{where_typed}
 use Rattle.c_text.specs.Scopes.{Names, usable}
 use Rattle.c_meaning.specs.Values.{Trouble, Undefined, Stuck, CValue, Num, Ptr, held_type, is_true, on_ok, as_assigned}
@@ -39,7 +39,7 @@ use Rattle.c_meaning.specs.ExpressionLaws.{IsTyped, NamesAreTyped, place_type_of
 use Rattle.c_meaning.specs.Laws.{CanHold, watched}
 use Rattle.c_meaning.proofs.Expressions.{PlaceComes, typed_comes, typed_place_comes}
 use Rattle.c_soundness.proofs.Kept.{Kept, front, rest, asked, others}
-use Rattle.c_soundness.proofs.Typed.{ExprIs, PlaceIs, expr_is, place_is, test_of}
+use Rattle.c_soundness.proofs.Typed.{ExprIs, PlaceIs, expr_is, test_of}
 use Rattle.c_soundness.proofs.Names.{Covers, type_stays, place_stays}
 use Rattle.c_soundness.proofs.HeldMemory.{MemoryHeld, reads_held, initialize_held}
 use Rattle.c_soundness.proofs.Given.{Good, good_on_ok, IsOf, comes_good, IsGiven, Holds, assigned_good, AreGiven}

@@ -1,14 +1,14 @@
 -- Functions whose demands are kept are not stuck where they are called with what their parameters want.
-use Rattle.std.proofs.Common.{◌≡◌, ℕ, Bool, true, false, not, IsTrue, List, [], ◌∷◌, map, Option, Some, None, Result, Ok, Err, refl, sym, subst, ap, ◌∙◌}
-use Rattle.std.specs.Prelude.{⊤, ◌++◌, ◌||◌, if◌then◌else◌, All, codes}
-use Rattle.std.specs.Option.{is_some, option_map}
+use Rattle.std.proofs.Common.{◌≡◌, ℕ, Bool, true, false, not, List, [], ◌∷◌, map, Option, Some, None, Ok, Err, refl, sym, subst, ap, ◌∙◌}
+use Rattle.std.specs.Prelude.{⊤, ◌++◌, if◌then◌else◌, All, codes}
+use Rattle.std.specs.Option.{is_some}
 use Rattle.std.specs.List.{find, list_any}
 use Rattle.std.proofs.lemmas.Bool.{or_parts, not-true, false_from_ne_true}
 use Rattle.std.proofs.lemmas.List.Elements.{All-nil, All-cons}
 use Rattle.iv_words.specs.Words.{same_word}
 use Rattle.run_records.specs.declared.Reason.TheVariants.{Dead}
 use Rattle.step_semantics.specs.Control.{Control, Falls, Broke, Returned}
-use Rattle.step_semantics.specs.Frames.{Frames, without}
+use Rattle.step_semantics.specs.Frames.{without}
 use Rattle.step_semantics.specs.Safe.{Keeps}
 use Rattle.step_semantics.specs.Steps.{World, Part, give, block}
 use Rattle.step_semantics.proofs.FrameLaws.{keeps_in_frame}
@@ -25,25 +25,24 @@ use Rattle.c_ast.specs.Syntax.{Name, Function, TranslationUnit}
 use Rattle.c_ast.specs.Targets.{table_of}
 use Rattle.c_text.specs.Rules.{behind}
 use Rattle.c_text.specs.Spelling.{param_text}
-use Rattle.c_text.specs.Scopes.{Names, is_function, is_value, is_taken, usable, with_value, with_held, with_const}
+use Rattle.c_text.specs.Scopes.{Names, is_function, is_value, is_taken, with_value, with_held, with_const}
 use Rattle.c_text.specs.StatementRules.{stmts_demands}
 use Rattle.c_text.specs.UnitRules.{file_scope, inside, params_demands, with_params}
-use Rattle.c_meaning.specs.Values.{Trouble, Undefined, Stuck, Address, CValue, Num, Ptr, held_type, as_assigned, as_arguments}
-use Rattle.c_meaning.specs.State.{Program, Slot, Holding, Frame, CState, lives, leave, enter, back, in_own_frame}
-use Rattle.c_meaning.specs.Scopes.{slot_entity, local_entity, file_entity}
+use Rattle.c_meaning.specs.Values.{Undefined, Address, CValue, Num, Ptr, held_type, as_assigned, as_arguments}
+use Rattle.c_meaning.specs.State.{Program, Holding, CState, lives, leave, enter, back, in_own_frame}
+use Rattle.c_meaning.specs.Scopes.{local_entity, file_entity}
 use Rattle.c_meaning.specs.Places.{alive}
 use Rattle.c_meaning.specs.ExpressionLaws.{SlotIsTyped}
-use Rattle.c_meaning.specs.Calls.{given, CallResult, Nothing, Missing, Gave, Calls, stop_call, call_found, call}
+use Rattle.c_meaning.specs.Calls.{CallResult, Gave, Calls, stop_call, call_found, call}
 use Rattle.c_meaning.specs.Statements.{exec_all}
 use Rattle.c_meaning.specs.Runs.{gave, function_value, param_types, bound, function_body, function_call, with_function}
 use Rattle.c_meaning.specs.Laws.{watched, IsNotStuck}
-use Rattle.c_soundness.proofs.Kept.{Kept, front, rest, asked, others}
+use Rattle.c_soundness.proofs.Kept.{Kept, front, rest, asked}
 use Rattle.c_soundness.proofs.Names.{same_self, same_equal, none_there, Alike, alike_covers, anywhere, Covers}
 use Rattle.c_soundness.proofs.HeldMemory.{MemoryHeld}
-use Rattle.c_soundness.proofs.Given.{Good, good_given, IsGiven, Holds, assigned_good, AreGiven, AreHeld, arguments_good}
-use Rattle.c_soundness.proofs.Evaluated.{Ready}
-use Rattle.c_soundness.proofs.Outside.{Gives, Called}
-use Rattle.c_soundness.proofs.Statements.{usable_is, CallsKeep, Returns, Within, Still, LeftBlock, body_left}
+use Rattle.c_soundness.proofs.Given.{Good, good_given, Holds, assigned_good, AreGiven, AreHeld, arguments_good}
+use Rattle.c_soundness.proofs.Outside.{Called}
+use Rattle.c_soundness.proofs.Statements.{usable_is, CallsKeep, Returns, Within, LeftBlock, body_left}
 
 -- ---- new names
 

@@ -1,10 +1,9 @@
 -- Answers that are not stuck, and values that are given where a type is wanted: each is converted to it, or there is a reason why not.
-use Rattle.std.proofs.Common.{◌≡◌, ℕ, ℤ, Bool, true, false, not, List, [], ◌∷◌, Option, Some, None, Result, Ok, Err, refl, sym, ap, subst, ◌∙◌}
+use Rattle.std.proofs.Common.{◌≡◌, ℕ, Bool, true, false, not, List, [], ◌∷◌, Option, Some, Result, Ok, Err, refl, sym, ap, subst}
 use Rattle.std.specs.Prelude.{⊤, ◌&&◌, ◌||◌, if◌then◌else◌}
-use Rattle.step_semantics.specs.Steps.{World, FailedCheck, Halt, Part, tick}
+use Rattle.step_semantics.specs.Steps.{World, Part}
 use Rattle.step_semantics.specs.Safe.{Keeps}
 use Rattle.c_ast.specs.declared.CBase.{CBase}
-use Rattle.c_ast.specs.declared.CKind.{CKind}
 use Rattle.c_ast.specs.declared.CKind.TheVariants.{Scalar}
 use Rattle.c_ast.specs.declared.CScalar.{CScalar}
 use Rattle.c_ast.specs.declared.CType.{CType}
@@ -17,10 +16,10 @@ use Rattle.c_text.specs.ExpressionRules.{result_may_be_given}
 use Rattle.c_text.specs.Scopes.{Names}
 use Rattle.c_meaning.specs.Values.{Trouble, Undefined, Stuck, CValue, Num, Ptr, Address, held_type, on_ok, as_kind, as_assigned, as_arguments}
 use Rattle.c_meaning.specs.Memory.{answered}
-use Rattle.c_meaning.specs.State.{Program, CState}
+use Rattle.c_meaning.specs.State.{CState}
 use Rattle.c_meaning.specs.ExpressionLaws.{IsTyped}
-use Rattle.c_meaning.specs.Calls.{given, troubled}
-use Rattle.c_meaning.specs.Laws.{no_site, watched, IsNotStuck}
+use Rattle.c_meaning.specs.Calls.{given}
+use Rattle.c_meaning.specs.Laws.{watched, IsNotStuck}
 use Rattle.c_ast.specs.Syntax.{TranslationUnit}
 use Rattle.c_meaning.proofs.Operands.{Fine, Comes}
 use Rattle.c_meaning.proofs.Expressions.{as_kind_fine}

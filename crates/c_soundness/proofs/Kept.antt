@@ -1,6 +1,6 @@
 -- What demands that are kept say: each rule of the row is kept, and so is each part of the row.
 use Rattle.std.proofs.Common.{◌≡◌, true, Bool, List, [], ◌∷◌, Option, Some, None, refl, sym, subst}
-use Rattle.std.specs.Prelude.{◌++◌, All, IsTrue}
+use Rattle.std.specs.Prelude.{◌++◌, All}
 use Rattle.std.specs.Option.{is_some, option_map, option_and_then}
 use Rattle.std.proofs.lemmas.List.Elements.{All-head, All-tail, All-nil, All-cons}
 use Rattle.c_text.specs.Right.{IsKept}

@@ -1,6 +1,6 @@
 -- Calls of what is outside the unit: they are not stuck, leave the frames as they were, and keep the memory held.
-use Rattle.std.proofs.Common.{◌≡◌, ℕ, ℤ, ◌<◌, ◌^◌, Bool, true, false, IsTrue, List, [], ◌∷◌, length, map, drop, Option, Some, None, Result, Ok, Err, arith, refl, sym, subst, ap, ◌∙◌}
-use Rattle.std.specs.Prelude.{⊤, ◌++◌, ◌&&◌, unsigned_abs}
+use Rattle.std.proofs.Common.{◌≡◌, ℕ, ℤ, ◌<◌, ◌^◌, Bool, true, false, IsTrue, List, [], ◌∷◌, length, map, drop, Result, Ok, Err, arith, refl, sym, subst, ap}
+use Rattle.std.specs.Prelude.{⊤, ◌++◌, unsigned_abs}
 use Rattle.std.proofs.lemmas.Bool.{and_parts}
 use Rattle.std.proofs.lemmas.Int.{ints}
 use Rattle.iv_words.specs.Kinds.{in_range}
@@ -8,7 +8,6 @@ use Rattle.iv_words.specs.declared.IntKind.TheVariants.{U32}
 use Rattle.run_records.specs.declared.Piece.TheVariants as piece
 use Rattle.run_records.specs.declared.Plain.{Plain}
 use Rattle.run_records.specs.Scripts.{plain_fits, values_fit}
-use Rattle.step_semantics.specs.Frames.{Frames}
 use Rattle.step_semantics.specs.Imports.{import_call}
 use Rattle.step_semantics.specs.Safe.{Keeps}
 use Rattle.step_semantics.specs.Steps.{World, FailedCheck, bind, change}
@@ -33,10 +32,10 @@ use Rattle.c_ast.specs.Scalars.{metric_of}
 use Rattle.c_ast.specs.Signatures.{IsResult}
 use Rattle.c_ast.specs.Structs.{tree}
 use Rattle.c_ast.specs.Syntax.{TranslationUnit}
-use Rattle.c_ast.specs.Targets.{TargetTable, table_of}
+use Rattle.c_ast.specs.Targets.{table_of}
 use Rattle.c_meaning.specs.Values.{Address, CValue, Num, Ptr, on_ok, as_arguments}
 use Rattle.c_meaning.specs.Memory.{CObjects, memory_of, answered}
-use Rattle.c_meaning.specs.State.{Program, Frame, CState, seen}
+use Rattle.c_meaning.specs.State.{Program, CState, seen}
 use Rattle.c_meaning.specs.Calls.{given, CallResult, Nothing, Missing, Gave, piece_of, pieces_of, pointed, reply_shape, written_shape, reply_value, write_replies, reply_written, outside_with, outside, stop_at, stop_call, extern_call}
 use Rattle.c_meaning.specs.Laws.{CanHold, watched, IsNotStuck}
 use Rattle.c_soundness.proofs.Given.{Good, good_on_ok, answered_good, good_given, Holds, AreGiven, AreHeld, arguments_good}

@@ -1,14 +1,13 @@
 -- Statements whose demands are kept are not stuck, in a state that has their names.
-use Rattle.std.proofs.Common.{◌≡◌, ℕ, ℤ, suc, ◌+◌, Bool, true, false, IsTrue, List, [], ◌∷◌, length, map, Option, Some, None, Result, Ok, Err, refl, sym, subst, ap, ◌∙◌}
+use Rattle.std.proofs.Common.{◌≡◌, ℕ, Bool, true, false, IsTrue, List, [], ◌∷◌, length, map, Option, Some, None, Result, refl, sym, subst, ap, ◌∙◌}
 use Rattle.std.specs.Prelude.{⊤, ◌++◌, ◌==◌, if◌then◌else◌, All, codes}
 use Rattle.std.specs.Option.{is_some, option_map, option_and_then}
 use Rattle.std.proofs.lemmas.Bool.{eqb-true}
 use Rattle.std.proofs.lemmas.List.Elements.{All-cons}
-use Rattle.run_records.specs.declared.Reason.TheVariants.{NoValue}
 use Rattle.step_semantics.specs.Control.{Control, Falls, Broke, Returned}
 use Rattle.step_semantics.specs.Frames.{Frames}
 use Rattle.step_semantics.specs.Safe.{Keeps}
-use Rattle.step_semantics.specs.Steps.{World, Part, give, bind, tick, change, block}
+use Rattle.step_semantics.specs.Steps.{World, Part, give, tick, change, block}
 use Rattle.step_semantics.proofs.Keeping.{keeps_weaker, keeps_after, keeps_tick, keeps_left, keeps_also, keeps_forever, keeps_choice}
 use Rattle.type_trees.specs.Trees.{Leaf, Many, Struct}
 use Rattle.c_memory.specs.Access.{Fault}
@@ -21,7 +20,7 @@ use Rattle.c_ast.specs.declared.CType.TheVariants.{Void, Value, Pointer}
 use Rattle.c_ast.specs.declared.Target.{Target}
 use Rattle.c_ast.specs.Names.{named}
 use Rattle.c_ast.specs.Signatures.{Signature}
-use Rattle.c_ast.specs.StaticTypes.{ValueType, PlaceType, Held, Stored, Entity, ConstName, ObjectName, declared, value_type, may_be_given, assigned_scalar}
+use Rattle.c_ast.specs.StaticTypes.{PlaceType, Held, Stored, Entity, ObjectName, declared, assigned_scalar}
 use Rattle.c_ast.specs.Structs.{tree}
 use Rattle.c_ast.specs.Syntax.{Name, Expr, Place, Init, FunctionCall, Stmt, Const, ConstCall, Object, Assign, If, IfElse, Forever, Break, Return, Block, Call, Stmts, Nil, Cons, TranslationUnit}
 use Rattle.c_ast.specs.Targets.{table_of}
@@ -29,7 +28,7 @@ use Rattle.c_text.specs.ExpressionRules.{is_number, type_of, place_of, expr_dema
 use Rattle.c_text.specs.Rules.{behind, where_typed, where_both}
 use Rattle.c_text.specs.Scopes.{Names, usable, with_value, with_held, with_const, after}
 use Rattle.c_text.specs.StatementRules.{is_void, assigned_demands, stmt_demands, stmts_demands}
-use Rattle.c_meaning.specs.Values.{Trouble, Undefined, Stuck, CValue, held_type, is_true, on_ok, as_assigned}
+use Rattle.c_meaning.specs.Values.{Trouble, CValue, is_true, on_ok, as_assigned}
 use Rattle.c_meaning.specs.Memory.{CObjects, memory_of, answered, unless_refused}
 use Rattle.c_meaning.specs.State.{Program, Slot, Holding, Naming, Frame, CState, with_name, declare, declare_object, leave}
 use Rattle.c_meaning.specs.Scopes.{slot_entity, local_entity, file_entity, declarations}
@@ -40,8 +39,8 @@ use Rattle.c_meaning.specs.ExpressionLaws.{SlotIsTyped, place_type_of}
 use Rattle.c_meaning.specs.Calls.{CallResult, Nothing, Missing, Gave, Calls, given, call}
 use Rattle.c_meaning.specs.Statements.{with_value as with_value_of, with_truth, call_step, used, declaration, object, object_with, stored, assign, exec, exec_all}
 use Rattle.c_meaning.specs.Laws.{CanHold, watched, IsNotStuck}
-use Rattle.c_soundness.proofs.Kept.{Kept, front, rest, asked, others, Found, found}
-use Rattle.c_soundness.proofs.Typed.{PlaceIs, place_is, place_said, place_test}
+use Rattle.c_soundness.proofs.Kept.{Kept, front, rest, asked, others, found}
+use Rattle.c_soundness.proofs.Typed.{place_is, place_said, place_test}
 use Rattle.c_soundness.proofs.Names.{Covers, covers_more}
 use Rattle.c_soundness.proofs.HeldMemory.{MemoryHeld, write_held, create_held, leave_held}
 use Rattle.c_soundness.proofs.Given.{Good, good_on_ok, answered_good, good_given, IsGiven, Holds, assigned_good, held_given, AreGiven}

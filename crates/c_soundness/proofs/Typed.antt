@@ -1,9 +1,8 @@
 -- An expression or a place whose demands are kept has a type, and knows the tags in it.
-use Rattle.std.proofs.Common.{◌≡◌, ℕ, true, false, not, Bool, List, [], ◌∷◌, Option, Some, None, refl, sym, subst, ap, ◌∙◌}
-use Rattle.std.specs.Prelude.{◌++◌, ◌&&◌, ◌||◌, codes, if◌then◌else◌}
-use Rattle.std.specs.Option.{is_some, option_map, option_and_then}
-use Rattle.std.proofs.lemmas.Bool.{and_parts, and_from, true≢false}
-use Rattle.c_ast.specs.declared.CBase.{CBase}
+use Rattle.std.proofs.Common.{◌≡◌, ℕ, true, false, not, Bool, List, [], Option, Some, None, refl, sym, subst, ap, ◌∙◌}
+use Rattle.std.specs.Prelude.{◌&&◌, ◌||◌, if◌then◌else◌}
+use Rattle.std.specs.Option.{is_some, option_map}
+use Rattle.std.proofs.lemmas.Bool.{and_parts, and_from}
 use Rattle.c_ast.specs.declared.CBase.TheVariants as base
 use Rattle.c_ast.specs.declared.CBinary.{CBinary}
 use Rattle.c_ast.specs.declared.CStruct.{CStruct}
@@ -13,7 +12,7 @@ use Rattle.c_ast.specs.declared.CUnary.{CUnary}
 use Rattle.c_ast.specs.declared.Target.{Target}
 use Rattle.c_ast.specs.Conversions.{constant_type}
 use Rattle.c_ast.specs.Names.{named}
-use Rattle.c_ast.specs.StaticTypes.{ValueType, Arithmetic, PointerTo, PlaceType, Held, Stored, Entity, Scope, declared, of_unary, of_binary, of_choice, of_cast, of_entity, of_pointee, of_member, of_element, of_read, of_address, of_both, member_tree, expr_type, place_type}
+use Rattle.c_ast.specs.StaticTypes.{ValueType, Arithmetic, PointerTo, PlaceType, Held, Stored, Scope, declared, of_unary, of_binary, of_choice, of_cast, of_entity, of_pointee, of_member, of_element, of_read, of_address, of_both, member_tree, expr_type, place_type}
 use Rattle.c_ast.specs.Syntax.{Name, Expr, Number, Read, Address, Unary, Binary, Cast, Cond, Place, Var, At, Member, Element}
 use Rattle.c_ast.specs.Targets.{TargetTable, table_of}
 use Rattle.type_trees.specs.Trees.{Leaf, Many, Struct}

@@ -12,7 +12,6 @@ use Rattle.run_records.specs.Scripts.{Fits}
 use Rattle.step_semantics.specs.Safe.{Keeps}
 use Rattle.step_semantics.specs.Steps.{World, FailedCheck}
 use Rattle.step_semantics.proofs.Keeping.{keeps_run}
-use Rattle.c_memory.specs.Initializers as inits
 use Rattle.c_memory.specs.Initializers.{IsInit}
 use Rattle.c_ast.specs.declared.CExtern.{CExtern}
 use Rattle.c_ast.specs.declared.CStruct.{CStruct}
@@ -31,11 +30,11 @@ use Rattle.c_text.specs.Subset.{ExternInSubset, InSubset}
 use Rattle.c_text.specs.UnitRules.{file_scope, functions_demands, objects_demands, externs_demands, structs_demands, unit_demands}
 use Rattle.c_meaning.specs.Values.{Trouble, Undefined, Stuck, CValue, on_ok}
 use Rattle.c_meaning.specs.Memory.{CObjects}
-use Rattle.c_meaning.specs.State.{Program, Slot, CState, at_rest, seen}
+use Rattle.c_meaning.specs.State.{Program, CState, at_rest, seen}
 use Rattle.c_meaning.specs.Scopes.{file_entity, scope_of}
 use Rattle.c_meaning.specs.ExpressionLaws.{SlotIsTyped}
 use Rattle.c_meaning.specs.Initializers.{eval_init, made_with}
-use Rattle.c_meaning.specs.Calls.{CallResult, Calls, no_functions, stop_call, call_found, call}
+use Rattle.c_meaning.specs.Calls.{no_functions, stop_call, call_found}
 use Rattle.c_meaning.specs.Runs.{entry, file_objects, first_state_of, run_from}
 use Rattle.c_meaning.specs.Laws.{no_site, watched, IsNotStuck}
 use Rattle.c_soundness.specs.Laws.{KeepsWhatMatters, NeverStuckLaws}

@@ -4,7 +4,7 @@ use Rattle.c_ast.specs.declared.Target.{Target}
 use Rattle.c_ast.specs.Syntax.{TranslationUnit}
 use Rattle.c_text.specs.ReadsBack.{ReadsBack}
 use Rattle.c_text.specs.Right.{IsKept, Right}
-use Rattle.c_text.specs.Rules.{Rule, Demand, NameIsKnown, TagIsKnown, MemberIsKnown, NameIsNew, TagIsNew, MemberIsNew, NameIsOfFile, CalledIsEarlier, OperandsAreScalars, CastIsAllowed, StarHasPointer, DotHasStruct, IndexHasArray, AddressIsOfObject, ReadHasValue, NameIsPlace, AssignedIsScalar, GivenIsWanted, IndexIsScalar, TestIsScalar, ArgumentsAreCounted, ResultIsWanted, ReturnMatches, BreakIsInLoop, InitializersFit, BracesMatch, FileScopeHasNoNames, LengthIsAllowed, MemberEndsInTime, ConstantHasType}
+use Rattle.c_text.specs.Rules.{Rule, NameIsKnown, TagIsKnown, MemberIsKnown, NameIsNew, TagIsNew, MemberIsNew, NameIsOfFile, CalledIsEarlier, OperandsAreScalars, CastIsAllowed, StarHasPointer, DotHasStruct, IndexHasArray, AddressIsOfObject, ReadHasValue, NameIsPlace, AssignedIsScalar, GivenIsWanted, IndexIsScalar, TestIsScalar, ArgumentsAreCounted, ResultIsWanted, ReturnMatches, BreakIsInLoop, InitializersFit, BracesMatch, FileScopeHasNoNames, LengthIsAllowed, MemberEndsInTime, ConstantHasType}
 use Rattle.c_text.specs.Subset.{InSubset}
 use Rattle.c_text.specs.UnitRules.{unit_demands}
 use Rattle.c_meaning.specs.Laws.{NeverStuck}

@@ -4,4 +4,4 @@
 
 mod laws;
 
-pub use laws::never_stuck;
+pub use laws::{never_stuck, rule_examples};

@@ -1,5 +1,5 @@
 -- A break that leaves the loop around a block stands among its effects.
-use Rattle.std.proofs.Common.{◌≡◌, refl, sym, ap, ◌∙◌, Bool}
+use Rattle.std.proofs.Common.{◌≡◌, refl, ap, ◌∙◌, Bool}
 use Rattle.std.specs.Prelude.{◌||◌}
 use Rattle.ivory_tree.specs.Syntax.{StmtSyntax, Let, LetCall, Alloc, Store, Copy, Call, If, IfElse, Map, Upto, Downto, Forever, Break, Return, Assert, NoAlloc, NoBreak, NoReturn, BlockSyntax, Braces, StmtsSyntax, NoStmts, MoreStmts}
 use Rattle.alloc_effects.specs.Effects.{stmt_effects, block_effects, stmts_effects}

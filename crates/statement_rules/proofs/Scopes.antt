@@ -1,6 +1,6 @@
 -- Names that are added to those in scope, and taken out again.
-use Rattle.std.proofs.Common.{◌≡◌, refl, sym, ◌∙◌, ap, ℕ, zero, suc, ◌≤◌, List, [], ◌∷◌, ◌++◌, length, take, map, arith}
-use Rattle.std.specs.Prelude.{Option, option_map}
+use Rattle.std.proofs.Common.{◌≡◌, refl, sym, ◌∙◌, ap, ℕ, zero, suc, ◌≤◌, List, [], ◌∷◌, ◌++◌, length, take, arith}
+use Rattle.std.specs.Prelude.{option_map}
 use Rattle.std.proofs.lemmas.List.{length-take, map-append, take-append-le, take_all}
 use Rattle.alloc_effects.specs.declared.allowed.Allowed.{Allowed}
 use Rattle.area_types.specs.View.{type_of}

@@ -2,7 +2,7 @@
 use Rattle.std.proofs.Common.{◌≡◌, ℕ, ◌+◌, ◌<◌, Bool, true, false, List, [], ◌∷◌, ◌++◌, length, get_or, drop, drop-cons, add-one, cond, refl, ap, sym, ◌∙◌}
 use Rattle.std.specs.Prelude.{Option, Some, None, ◌&&◌}
 use Rattle.iv_words.specs.declared.Span.{Span}
-use Rattle.ivory_tree.specs.Syntax.{TypeSyntax, TruthType, IntType, IndexType, BitsType, RefType, AreaSyntax, StoredArea, ArrayArea, StructArea, InitSyntax, StmtSyntax, Let, LetCall, Alloc, Store, Copy, Call, If, IfElse, Map, Upto, Downto, Forever, Break, Return, Assert, NoAlloc, NoBreak, NoReturn, BlockSyntax, Braces, StmtsSyntax, MoreStmts}
+use Rattle.ivory_tree.specs.Syntax.{TypeSyntax, TruthType, IntType, IndexType, BitsType, RefType, AreaSyntax, StoredArea, ArrayArea, StructArea, StmtSyntax, Let, LetCall, Alloc, Store, Copy, Call, If, IfElse, Map, Upto, Downto, Forever, Break, Return, Assert, NoAlloc, NoBreak, NoReturn, BlockSyntax, Braces, StmtsSyntax, MoreStmts}
 use Rattle.ivory_tree.specs.Places.{type_span, area_span, stmt_span, block_span}
 use Rattle.ivory_tree.specs.View.{type_of, area_of, stmt_step, stmt_of, block_of, stmts_from, stmts_of}
 use Rattle.ivory_tree.specs.declared.stmt.Block.{Block, out-Block, fold_out-Block}
@@ -20,7 +20,7 @@ use Rattle.rule_faults.specs.Wants.{Nothing, Wants, wants, of_stored}
 use Rattle.rule_faults.specs.Nodes.{Node, Within, AType, AnArea, AStatement, ABlock}
 use Rattle.rule_faults.specs.ExpressionRows.{type_row, area_row, expr_row, call_row}
 use Rattle.rule_faults.specs.StatementRows.{in_loop, in_counted, without, after_stmt, alloc_row, value_row, stmt_row, block_row, stmts_row}
-use Rattle.rule_faults.specs.FirstFault.{least_broken, first_of}
+use Rattle.rule_faults.specs.FirstFault.{first_of}
 use Rattle.rule_checker.specs.Faults.{either, at_place}
 use Rattle.rule_checker.specs.Rows.{least, one_row}
 use Rattle.rule_checker.proofs.Patterns.{told, first_joined, least_joined}

@@ -1,5 +1,5 @@
 -- The rules that may be broken at each form of a statement, as rows of numbers with tests; the last is that it is reached.
-use Rattle.std.specs.Prelude.{ℕ, Bool, not, ◌&&◌, List, [], ◌∷◌, ◌++◌, Option, Some, None}
+use Rattle.std.specs.Prelude.{ℕ, Bool, not, List, [], ◌∷◌, ◌++◌, Option, Some, None}
 use Rattle.ivory_tree.specs.Syntax.{StmtSyntax, Let, LetCall, Alloc, Store, Copy, Call, If, IfElse, Map, Upto, Downto, Forever, Break, Return, Assert, NoAlloc, NoBreak, NoReturn}
 use Rattle.area_types.specs.Syntax.{ValueType}
 use Rattle.area_types.specs.Tables.{is_length}

@@ -1,4 +1,4 @@
-use Rattle.std.proofs.Common.{List, map, ◌∙◌}
+use Rattle.std.proofs.Common.{map, ◌∙◌}
 use Rattle.std.specs.Prelude.{option_map}
 use Rattle.area_types.specs.View.{type_of}
 use Rattle.rule_checker.specs.Arguments.{passed_at}

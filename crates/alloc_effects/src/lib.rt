@@ -4,8 +4,6 @@
 mod allowed;
 mod effects;
 mod laws;
-#[cfg(test)]
-mod tests;
 
 pub use allowed::{Allowed, Narrowing, in_loop, narrow};
 pub use effects::{Effects, effects_of};

@@ -15,10 +15,9 @@ mod measure;
 mod part;
 mod region;
 mod shape;
+mod smallness;
 mod structs;
 mod table;
-#[cfg(test)]
-mod tests;
 
 pub use area::{Area, RefType, ValueType};
 pub use count::{cells, nodes};
@@ -28,5 +27,6 @@ pub use laws::parts_are_areas;
 pub use part::cell_at;
 pub use region::Region;
 pub use shape::AreaShape;
+pub use smallness::{are_small, is_small};
 pub use structs::{FieldDef, StructDef};
 pub use table::StructTable;

@@ -8,8 +8,6 @@ mod fields;
 mod laws;
 mod layout;
 mod layouts;
-#[cfg(test)]
-mod tests;
 
 pub use fault::{LayoutFault, TooWide};
 pub use fields::{field_of, with_field};

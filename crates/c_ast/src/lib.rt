@@ -8,8 +8,6 @@ mod layout;
 mod numbers;
 mod stmt;
 mod target;
-#[cfg(test)]
-mod tests;
 mod types;
 mod unit;
 

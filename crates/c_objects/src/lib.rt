@@ -8,8 +8,6 @@ mod layout;
 mod objects;
 mod shape;
 mod standing;
-#[cfg(test)]
-mod tests;
 mod types;
 
 pub use faults::{Fault, Refusal};

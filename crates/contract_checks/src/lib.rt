@@ -7,8 +7,6 @@ mod row;
 mod site;
 mod stmts;
 mod table;
-#[cfg(test)]
-mod tests;
 
 pub use site::Site;
 pub use table::site_table;

@@ -4,8 +4,6 @@
 mod breaks;
 mod falling;
 pub mod laws;
-#[cfg(test)]
-mod tests;
 mod unreached;
 
 pub use falling::falls_through;

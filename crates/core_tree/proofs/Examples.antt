@@ -11,7 +11,8 @@ use Rattle.core_tree.specs.Syntax.{ExprCore, Whole, NoStmts, ProcCore, ModuleCor
 use Rattle.core_tree.specs.Names.{AllDifferent, ParamsApart, NamesApart, item_names}
 use Rattle.core_tree.specs.Sites.{Ascends, IsNumberedFrom}
 use Rattle.core_tree.specs.TypedExpressions.{ExprTyped}
-use Rattle.core_tree.specs.Types.{is_type, is_plain}
+use Rattle.core_tree.specs.Types.{is_type}
+use Rattle.source_types.specs.Values.{is_plain}
 use Rattle.core_tree.specs.TypedItems.{ProcTyped, is_local_type, env_of, below}
 use Rattle.core_tree.specs.Valid.{ValidCore, ProcsTyped}
 use Rattle.core_tree.specs.Examples as example

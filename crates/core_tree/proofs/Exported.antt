@@ -7,7 +7,7 @@ use Rattle.run_records.specs.declared.Plain.{Plain}
 use Rattle.run_records.specs.declared.Plain.TheVariants as plain
 use Rattle.area_types.specs.Syntax.{Name, ValueType, Truth, Int, Ix, Bits, Ref}
 use Rattle.core_tree.specs.Syntax.{ParamCore, ProcCore}
-use Rattle.core_tree.specs.Types.{is_plain}
+use Rattle.source_types.specs.Values.{is_plain}
 use Rattle.core_tree.specs.Exports.{plain_of, plain_params, plain_result, exports_by, exports_among}
 use Rattle.core_tree.specs.TypedItems.{ExportTyped, is_plain_result}
 use Rattle.core_tree.specs.Laws.{ExportsAreAll}

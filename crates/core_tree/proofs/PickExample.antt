@@ -12,7 +12,8 @@ use Rattle.core_tree.specs.Syntax.{Alloc, One}
 use Rattle.core_tree.specs.Environments.{Env, Point}
 use Rattle.core_tree.specs.Examples.{u8}
 use Rattle.core_tree.specs.TypedExpressions.{ExprTyped}
-use Rattle.core_tree.specs.Types.{is_type, is_plain}
+use Rattle.core_tree.specs.Types.{is_type}
+use Rattle.source_types.specs.Values.{is_plain}
 use Rattle.core_tree.specs.TypedItems.{AreaTyped, ProcTyped, is_local_type, env_of, start}
 use Rattle.core_tree.specs.TypedStatements.{StmtTyped, StmtsTyped}
 use Rattle.core_tree.specs.Valid.{ProcsTyped}

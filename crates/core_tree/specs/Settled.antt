@@ -5,7 +5,7 @@ use Rattle.ivory_tree.specs.declared.expr.PrefixOp.TheVariants.{Neg, Not, Flip, 
 use Rattle.ivory_tree.specs.declared.expr.BinOp.{BinOp}
 use Rattle.ivory_tree.specs.declared.expr.BinOp.TheVariants.{OrElse, AndAlso, Or, Xor, And, Eq, Ne, Lt, Le, Gt, Ge, Shl, Shr, Add, Sub, WrapAdd, WrapSub, Mul, Div, Rem, WrapMul}
 use Rattle.core_tree.specs.Syntax.{ExprCore, Number, Outcome, Local, AreaName, Cast, ToIndex, WrapIndex, MakeBits, Raw, SetField, Prefix, Binary, Field, Element, Cond, Whole}
-use Rattle.core_tree.specs.Operators.{is_truth}
+use Rattle.source_types.specs.Values.{is_truth}
 
 abbrev pub is_comparison : BinOp → Bool
 is_comparison OrElse = false

@@ -15,8 +15,10 @@ use Rattle.bit_data.specs.declared.layout.BitLayout.{BitLayout}
 use Rattle.core_tree.specs.declared.check.SiteKind.{SiteKind}
 use Rattle.core_tree.specs.declared.check.Check.{Check}
 use Rattle.core_tree.specs.Syntax.{Label, ExprCore, Number, Outcome, Local, AreaName, Cast, ToIndex, WrapIndex, MakeBits, Raw, SetField, Prefix, Binary, Field, Element, Cond, Whole, AreaCore, type_of}
-use Rattle.core_tree.specs.Types.{is_type, is_reference, is_plain, is_value}
-use Rattle.core_tree.specs.Operators.{is_integer, is_index_type, prefix_is_for, prefix_checks, is_for, result_of, checks_for, cast_checks, index_checks, field_type, set_checks}
+use Rattle.core_tree.specs.Types.{is_type, is_value}
+use Rattle.source_types.specs.Operators.{is_for, prefix_is_for}
+use Rattle.source_types.specs.Values.{is_index_type, is_integer, is_plain, is_reference}
+use Rattle.core_tree.specs.Operators.{prefix_sites, result_type, operator_sites, cast_sites, indexing_sites, field_type, set_sites}
 use Rattle.core_tree.specs.Settled.{is_settled, are_settled, is_operated}
 use Rattle.core_tree.specs.Environments.{Env, bit_field, struct_field}
 
@@ -56,7 +58,7 @@ pub record CastTyped (l : Label) (from : ValueType) : Type 0 where
   pub kind : IntKind
   pub type : l.ty ≡ Int kind
   pub operand : IsTrue (is_integer from || is_index_type from)
-  pub checked : Checked l.checks (cast_checks kind from)
+  pub checked : Checked l.checks (cast_sites kind from)
 
 -- `toix(N, e)`
 pub record ToIndexTyped (l : Label) (from : ValueType) : Type 0 where
@@ -65,7 +67,7 @@ pub record ToIndexTyped (l : Label) (from : ValueType) : Type 0 where
   pub type : l.ty ≡ Ix length
   pub in_range : IsTrue (is_length length)
   pub operand : from ≡ Int kind
-  pub checked : Checked l.checks (index_checks length kind)
+  pub checked : Checked l.checks (indexing_sites length kind)
 
 -- `wrapix(N, e)`
 pub record WrapIndexTyped (l : Label) (from : ValueType) : Type 0 where
@@ -92,7 +94,7 @@ pub record SetFieldTyped (env : Env) (l : Label) (from : ValueType) (field : ℕ
   pub found : bit_field env.core number field ≡ Some bits
   pub type : l.ty ≡ from
   pub value_is : value ≡ field_type bits
-  pub checked : Checked l.checks (set_checks bits)
+  pub checked : Checked l.checks (set_sites bits)
 
 -- `*e`: what is stored in an area
 pub record DerefTyped (l : Label) (from : ValueType) : Type 0 where
@@ -105,14 +107,14 @@ pub record DerefTyped (l : Label) (from : ValueType) : Type 0 where
 pub record PrefixTyped (l : Label) (op : PrefixOp) (from : ValueType) : Type 0 where
   pub is_for : IsTrue (prefix_is_for op from)
   pub type : l.ty ≡ from
-  pub checked : Checked l.checks (prefix_checks op)
+  pub checked : Checked l.checks (prefix_sites op)
 
 -- both operands have one type
 pub record BinaryTyped (l : Label) (op : BinOp) (left right : ValueType) : Type 0 where
   pub is_for : IsTrue (is_for op left)
   pub same : right ≡ left
-  pub type : l.ty ≡ result_of op left
-  pub checked : Checked l.checks (checks_for op left)
+  pub type : l.ty ≡ result_type op left
+  pub checked : Checked l.checks (operator_sites op left)
 
 -- a field of bit data
 pub record BitFieldTyped (env : Env) (l : Label) (from : ValueType) (field : ℕ) : Type 0 where

@@ -8,7 +8,8 @@ use Rattle.area_types.specs.declared.region.Region.TheVariants.{Global, Param, O
 use Rattle.region_check.specs.Found.{is_numbered, region_count}
 use Rattle.core_tree.specs.declared.check.SiteKind.TheVariants as kind
 use Rattle.core_tree.specs.Syntax.{AreaCore, ImportCore, ContractCore, ProcCore, ModuleCore}
-use Rattle.core_tree.specs.Types.{is_core_area, is_type, is_plain, is_value}
+use Rattle.core_tree.specs.Types.{is_core_area, is_type, is_value}
+use Rattle.source_types.specs.Values.{is_plain}
 use Rattle.core_tree.specs.Falling.{stmts_fall}
 use Rattle.core_tree.specs.Environments.{Env, Point, all_locals}
 use Rattle.core_tree.specs.TypedExpressions.{HasType}

@@ -28,19 +28,6 @@ is_type table regions (Ix n) = is_length n
 is_type table regions (Bits k) = nat_lt k (length table.words)
 is_type table regions (Ref constant region area) = is_region regions region && is_core_area table area
 
-abbrev pub is_reference : ValueType → Bool
-is_reference Truth = false
-is_reference (Int kind) = false
-is_reference (Ix n) = false
-is_reference (Bits k) = false
-is_reference (Ref constant region area) = true
-
--- bool or an integer
-abbrev pub is_plain : ValueType → Bool
-is_plain Truth = true
-is_plain (Int kind) = true
-is_plain _ = false
-
 -- ---- numbers
 
 abbrev pub is_word : Option IntKind → ℤ → Bool

@@ -9,8 +9,6 @@ mod items;
 pub mod laws;
 mod resolved;
 mod stmt;
-#[cfg(test)]
-mod tests;
 
 pub use check::{Check, SiteKind};
 pub use exports::exports_of;

@@ -17,8 +17,8 @@ pub struct CoreCall {
 
 /// The forms of a statement. A local is its number.
 ///
-/// `Store` has the reference to the cell, then the value; `Copy` has two references, the target first. A loop has the number of its name, the number N of its `ix(N)` and, where it has one, its bound. `NoAlloc`,
-/// `NoBreak` and `NoReturn` are the blocks that take a permission away.
+/// `Store` has the reference to the cell, then the value; `Copy` has two references, the target first. A loop has the number of its name,
+/// the number N of its `ix(N)` and, where it has one, its bound. `NoAlloc`, `NoBreak` and `NoReturn` are the blocks that take a permission away.
 #[cycle(stmt)]
 #[derive(PartialEq, Eq)]
 pub enum CoreStmt {

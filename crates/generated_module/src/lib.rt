@@ -1,8 +1,6 @@
 //! The text of a module of any number of procedures, to try the compiler on long texts.
 #![tactic(auto)]
 
-#[cfg(test)]
-mod tests;
 mod text;
 
 pub use text::generate;

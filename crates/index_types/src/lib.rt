@@ -3,7 +3,5 @@
 #![tactic(auto)]
 
 mod index;
-#[cfg(test)]
-mod tests;
 
 pub use index::{in_range, to_index, wrap_index};

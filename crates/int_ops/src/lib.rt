@@ -11,6 +11,3 @@ mod range;
 pub use answer::{apply, fits};
 pub use operator::{Op, Stop, allowed};
 pub use range::Range;
-
-#[cfg(test)]
-mod tests;

@@ -8,8 +8,6 @@ mod laws;
 mod line;
 mod read;
 mod report;
-#[cfg(test)]
-mod tests;
 
 pub use fault::{ScriptError, ScriptFault, ScriptWhy};
 pub use fit::fit_script;

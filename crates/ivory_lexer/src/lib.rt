@@ -12,8 +12,6 @@ mod number;
 mod piece;
 mod scan;
 mod symbol;
-#[cfg(test)]
-mod tests;
 mod token;
 
 pub use cut::{SOURCE_LIMIT, lex, reads_in_one_way};

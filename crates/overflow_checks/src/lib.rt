@@ -8,8 +8,6 @@ mod guards;
 pub mod laws;
 mod row;
 mod signed;
-#[cfg(test)]
-mod tests;
 mod unsigned;
 
 pub use computations::compute;

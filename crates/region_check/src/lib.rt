@@ -7,8 +7,6 @@ mod fault;
 pub mod laws;
 mod matching;
 mod subst;
-#[cfg(test)]
-mod tests;
 
 pub use escape::escapes;
 pub use fault::RegionFault;

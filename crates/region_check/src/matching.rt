@@ -85,7 +85,8 @@ fn match_references(
     wanted: &RefType,
     given: &RefType,
 ) -> Result<(), RegionFault>
-    ensures ok { OnOk result (Accepts (required (slice_get subst.old) wanted.now.region) (reference_in wanted.now) (reference_in given.now) × (subst.new ≡ learned subst.old wanted.now.region given.now.region)) }
+    ensures ok { OnOk result (Accepts (required (slice_get subst.old) wanted.now.region) (reference_in wanted.now) (reference_in given.now)) }
+    ensures learns { OnOk result (subst.new ≡ learned subst.old wanted.now.region given.now.region) }
     ensures err { IfErr result (λ fault. IsFault arg (required (slice_get subst.old) wanted.now.region) (reference_in wanted.now) (reference_in given.now) fault) }
 {
     let first = required(subst.as_slice(), wanted.region);
@@ -102,7 +103,8 @@ fn match_argument(
     wanted: &ValueType,
     given: &ValueType,
 ) -> Result<(), RegionFault>
-    ensures ok { OnOk result (AcceptsPassed (slice_get subst.old) (reference_of (type_of wanted.now)) (reference_of (type_of given.now)) × (subst.new ≡ learned_from subst.old (reference_of (type_of wanted.now)) (reference_of (type_of given.now)))) }
+    ensures ok { OnOk result (AcceptsPassed (slice_get subst.old) (reference_of (type_of wanted.now)) (reference_of (type_of given.now))) }
+    ensures learns { OnOk result (subst.new ≡ learned_from subst.old (reference_of (type_of wanted.now)) (reference_of (type_of given.now))) }
     ensures err { IfErr result (λ fault. IsFaultOf arg (slice_get subst.old) (reference_of (type_of wanted.now)) (reference_of (type_of given.now)) fault) }
 {
     match wanted {

@@ -5,6 +5,7 @@ pub mod Imports
 pub mod Runs
 pub mod Lawful
 pub mod Outcomes
+pub mod OutsideLaws
 pub mod Safe
 pub mod Takes
 pub mod Alike

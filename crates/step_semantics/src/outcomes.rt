@@ -1,15 +1,16 @@
-ghost use Rattle.std.specs.Prelude.{◌≡◌, ℕ, List, []};
+ghost use Rattle.std.specs.Prelude.{◌≡◌, List, []};
 ghost use Rattle.run_records.specs.declared.AreaCells.{AreaCells};
 ghost use Rattle.run_records.specs.declared.End.TheVariants.{Ended, Going, Undefined};
 ghost use Rattle.run_records.specs.declared.Reason.{Reason};
-ghost use Rattle.step_semantics.specs.Steps.{Exhausted, Finished, Halt, Progress, world_of};
+ghost use Rattle.step_semantics.specs.OutsideLaws.{FinishedSeen};
+ghost use Rattle.step_semantics.specs.Steps.{Exhausted, Halt, Progress, world_of};
 ghost use Rattle.step_semantics.specs.Runs.{end_of, outcome};
 
 /// An outcome says that the run goes on only where its steps were used up, and that it has ended only where it finished,
 /// with what is seen of the last state.
 pub fn ends_say_what_came<S, A>()
     ensures going { (see : S → List AreaCells) (r : Progress S A) → (outcome see r).end ≡ Going → r ≡ Exhausted (world_of r) }
-    ensures ended { (see : S → List AreaCells) (r : Progress S A) → (outcome see r).end ≡ Ended → (a : A) × (s : S) × (n : ℕ) × (r ≡ Finished a (world_of r) s n) × ((outcome see r).areas ≡ see s) }
+    ensures ended { (see : S → List AreaCells) (r : Progress S A) → (outcome see r).end ≡ Ended → FinishedSeen see r }
 {}
 
 /// Two causes that halt a run are never told as one.

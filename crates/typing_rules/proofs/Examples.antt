@@ -18,7 +18,7 @@ use Rattle.typing_rules.specs.Expressions.{Has}
 use Rattle.typing_rules.specs.Statements as stands
 use Rattle.typing_rules.specs.Items as item
 use Rattle.typing_rules.specs.WellTyped as module_rule
-use Rattle.typing_rules.specs.Examples.{added, added_header, added_proc, sum, sum_label, sum_core, AddedStands, LiteralsWantTypes, LiteralsFit, OwnStays, BreaksAreAllowed, ReturnsEnd, CallsGoBack}
+use Rattle.typing_rules.specs.Examples.{added, added_header, added_proc, sum, sum_label, sum_core, AddedStands, LiteralsWantTypes, LiteralsFit, OwnStays, BreaksAreAllowed, ReturnsEnd, CallsGoBack, IndicesAreNotWritten}
 
 some_injective : {A : Type 0} {x y : A} → Some x ≡ Some y → x ≡ y
 some_injective h = cc
@@ -84,3 +84,6 @@ added_stands = record {
 }
 
 pub ruleset examples = (added_stands, own_stays, literals_want_types, literals_fit, breaks_are_allowed, returns_end, calls_go_back)
+
+pub indices_are_not_written : IndicesAreNotWritten
+indices_are_not_written = refl

@@ -5,19 +5,20 @@ use Rattle.iv_words.specs.declared.Span.{Span}
 use Rattle.ivory_tree.specs.Syntax as syntax
 use Rattle.ivory_tree.specs.Syntax.{ExprSyntax, CallSyntax, StmtSyntax, StmtsSyntax, HeaderSyntax, ProcSyntax, ModuleSyntax}
 use Rattle.ivory_tree.specs.declared.expr.BinOp.TheVariants.{Add, Mul}
-use Rattle.area_types.specs.Syntax.{ValueType, Area, Int, Ref}
-use Rattle.area_types.specs.declared.region.Region.TheVariants.{Param, Own}
+use Rattle.area_types.specs.Syntax.{ValueType, Area, Stored, Int, Ix, Ref}
+use Rattle.area_types.specs.declared.region.Region.TheVariants.{Global, Param, Own}
 use Rattle.core_tree.specs.Syntax as core
 use Rattle.core_tree.specs.Syntax.{Label, ExprCore, CallCore, StmtCore, StmtsCore, ModuleCore, type_of}
 use Rattle.core_tree.specs.declared.SiteKind.TheVariants as site
 use Rattle.source_types.specs.Short.{span, name, byte, variable, block, param, header, module_m}
-use Rattle.source_types.specs.Environments.{callee_named}
+use Rattle.source_types.specs.Environments.{nothing_earlier, callee_named}
 use Rattle.typing_rules.specs.Environments.{Env}
 use Rattle.typing_rules.specs.Sites.{unchecked}
 use Rattle.typing_rules.specs.Wholes.{is_chain_prefix}
 use Rattle.typing_rules.specs.Expressions.{Has, Under}
 use Rattle.typing_rules.specs.Calls.{Calls}
 use Rattle.typing_rules.specs.Statements.{Returns, StandsStmt, StandAll}
+use Rattle.typing_rules.specs.Items.{writes_plain}
 use Rattle.typing_rules.specs.WellTyped.{Stands}
 
 -- `a + b`, whose operator carries check 0
@@ -87,3 +88,7 @@ CallsGoBack = (env : Env) (call : CallSyntax) (c : CallCore) (result : Option Va
 abbrev pub PrefixesAreTold : Type 0
 PrefixesAreTold = (at : Span) (a b : ExprSyntax) → (is_chain_prefix (span 0 9) Add (syntax.Binary (span 0 5) Add at a b) ≡ true) × (is_chain_prefix (span 0 11) Add (syntax.Binary (span 1 6) Add at a b) ≡ false)
     × (is_chain_prefix (span 0 9) Add (syntax.Binary (span 0 5) Mul at a b) ≡ false)
+
+-- an import writes no index through a reference, since it may write any number
+abbrev pub IndicesAreNotWritten : Type 0
+IndicesAreNotWritten = writes_plain nothing_earlier (Ref false Global (Stored (Ix 3))) ≡ false

@@ -17,20 +17,17 @@ use Rattle.area_types.specs.declared.region.Region.TheVariants.{Global}
 use Rattle.core_tree.specs.Syntax as core
 use Rattle.core_tree.specs.Syntax.{ExprCore, Label, Whole, type_of}
 use Rattle.source_types.specs.Values.{holds, is_integer, is_index_type, is_reference}
-use Rattle.source_types.specs.Operators.{is_logic, is_comparison, gives_truth, is_for, is_arithmetic, prefix_is_for}
+use Rattle.source_types.specs.Operators.{is_logic, gives_truth, is_for, is_arithmetic, prefix_is_for}
 use Rattle.source_types.specs.Settled.{settled}
 use Rattle.source_types.specs.Environments.{AreaDeclared, area_named, number_of_bits}
 use Rattle.source_types.specs.Parts.{stored_type, field_type, word_type, bit_field_type, bit_field_named, bit_field_number, field_number}
 use Rattle.typing_rules.specs.Environments.{Env, Local, local_named, area_number}
-use Rattle.typing_rules.specs.Sites.{Labelled, unchecked, operator_sites, prefix_sites, cast_sites, index_sites, set_sites, first_token, name_bytes}
+use Rattle.core_tree.specs.Operators.{operator_sites, prefix_sites, cast_sites, result_type}
+use Rattle.typing_rules.specs.Sites.{Labelled, unchecked, index_sites, set_sites, first_token, name_bytes}
 use Rattle.typing_rules.specs.Wholes.{is_chain_prefix, is_postfix_prefix, part}
 
 abbrev pub truth_value : Bool → ℤ
 truth_value b = if b then pos 1 else pos 0
-
--- what an operator gives for operands of a type
-abbrev pub result_type : BinOp → ValueType → ValueType
-result_type op t = if is_comparison op then types.Truth else t
 
 -- a chain up to an operator, with the core of its left operand
 abbrev pub chain : Span → BinOp → ExprSyntax → Label → (left right : ExprCore) → ExprCore

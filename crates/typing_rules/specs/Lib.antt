@@ -8,9 +8,13 @@ pub mod Initializers
 pub mod Statements
 pub mod Items
 pub mod WellTyped
-pub mod Examples
-pub mod Laws
 pub mod Contexts
-pub mod TypesAgree
-pub mod Clean
+pub mod OtherChecks
+pub mod Numbers
+pub mod ExpressionCores
+pub mod StatementCores
+pub mod ItemCores
+pub mod Tables
+pub mod Made
+pub mod Examples
 pub mod Picked

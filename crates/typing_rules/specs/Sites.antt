@@ -1,82 +1,27 @@
--- The checks that each operator and form makes, in order, and the token that carries them: the operator, or the first token of the form.
-use Rattle.std.specs.Prelude.{◌≡◌, ℕ, ◌+◌, min, ◌-◌, pos, int_le, Bool, true, false, ◌&&◌, ◌||◌, not, nat_eq, List, [], ◌∷◌, map}
+-- The checks that a form makes beside those of the table of operators, and the token that carries them: the operator, or the first token of the form.
+use Rattle.std.specs.Prelude.{◌≡◌, ℕ, ◌+◌, min, ◌||◌, nat_eq, List, [], ◌∷◌, map}
 use Rattle.iv_words.specs.declared.IntKind.{IntKind}
 use Rattle.iv_words.specs.declared.IntKind.TheVariants.{U8, U16, U32, U64, I8, I16, I32, I64}
 use Rattle.iv_words.specs.declared.Span.{Span}
-use Rattle.iv_words.specs.Kinds.{width, is_signed, least, greatest}
-use Rattle.ivory_tree.specs.declared.expr.BinOp.{BinOp}
-use Rattle.ivory_tree.specs.declared.expr.BinOp.TheVariants.{OrElse, AndAlso, Or, Xor, And, Eq, Ne, Lt, Le, Gt, Ge, Shl, Shr, Add, Sub, WrapAdd, WrapSub, Mul, Div, Rem, WrapMul}
-use Rattle.ivory_tree.specs.declared.expr.PrefixOp.{PrefixOp}
-use Rattle.ivory_tree.specs.declared.expr.PrefixOp.TheVariants.{Neg, Not, Flip, Deref}
+use Rattle.iv_words.specs.Kinds.{width}
 use Rattle.ivory_tree.specs.declared.items.BitField.{BitField}
 use Rattle.area_types.specs.Syntax.{ValueType, Truth, Int, Ix, Bits, Ref}
 use Rattle.core_tree.specs.declared.Check.{Check}
 use Rattle.core_tree.specs.declared.SiteKind.{SiteKind}
 use Rattle.core_tree.specs.declared.SiteKind.TheVariants as site
+use Rattle.core_tree.specs.Operators.{indexing_sites, unless}
 use Rattle.core_tree.specs.Syntax.{Label}
-use Rattle.source_types.specs.Values.{is_signed_integer, least_unsigned}
+use Rattle.source_types.specs.Values.{least_unsigned}
 
 -- ---- which checks
 
-abbrev pub divisions : Bool → List SiteKind
-divisions true = site.DivZero ∷ site.Overflow ∷ []
-divisions false = site.DivZero ∷ []
-
-abbrev pub operator_sites : BinOp → ValueType → List SiteKind
-operator_sites Add t = site.Overflow ∷ []
-operator_sites Sub t = site.Overflow ∷ []
-operator_sites Mul t = site.Overflow ∷ []
-operator_sites Div t = divisions (is_signed_integer t)
-operator_sites Rem t = divisions (is_signed_integer t)
-operator_sites Shl t = site.Shift ∷ []
-operator_sites Shr t = site.Shift ∷ []
-operator_sites OrElse t = []
-operator_sites AndAlso t = []
-operator_sites Or t = []
-operator_sites Xor t = []
-operator_sites And t = []
-operator_sites Eq t = []
-operator_sites Ne t = []
-operator_sites Lt t = []
-operator_sites Le t = []
-operator_sites Gt t = []
-operator_sites Ge t = []
-operator_sites WrapAdd t = []
-operator_sites WrapSub t = []
-operator_sites WrapMul t = []
-
-abbrev pub prefix_sites : PrefixOp → List SiteKind
-prefix_sites Neg = site.Overflow ∷ []
-prefix_sites Not = []
-prefix_sites Flip = []
-prefix_sites Deref = []
-
--- the type has only values of the kind
-abbrev pub only_values_of : IntKind → ValueType → Bool
-only_values_of kind (Int j) = int_le (least kind) (least j) && int_le (greatest j) (greatest kind)
-only_values_of kind (Ix n) = int_le (pos (n - 1)) (greatest kind)
-only_values_of kind Truth = false
-only_values_of kind (Bits k) = false
-only_values_of kind (Ref constant region area) = false
-
--- the type has only values below n and none negative
-abbrev pub only_below : ℕ → ValueType → Bool
-only_below n (Int j) = not (is_signed j) && int_le (greatest j) (pos (n - 1))
-only_below n Truth = false
-only_below n (Ix m) = false
-only_below n (Bits k) = false
-only_below n (Ref constant region area) = false
-
-abbrev pub unless : Bool → SiteKind → List SiteKind
-unless true kind = []
-unless false kind = kind ∷ []
-
--- `T(e)` of a settled e, `toix`, `set`
-abbrev pub cast_sites : IntKind → ValueType → List SiteKind
-cast_sites kind t = unless (only_values_of kind t) site.Cast
-
+-- of `toix`; of what is no whole number nothing is known
 abbrev pub index_sites : ℕ → ValueType → List SiteKind
-index_sites n t = unless (only_below n t) site.Index
+index_sites n (Int kind) = indexing_sites n kind
+index_sites n Truth = site.Index ∷ []
+index_sites n (Ix m) = site.Index ∷ []
+index_sites n (Bits k) = site.Index ∷ []
+index_sites n (Ref constant region area) = site.Index ∷ []
 
 abbrev pub set_sites : BitField → List SiteKind
 set_sites f = unless (f.truth || nat_eq f.width (width (least_unsigned f.width))) site.Cast

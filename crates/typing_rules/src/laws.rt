@@ -1,10 +1,7 @@
-//! A small module with its core, what is not well typed, and what is proved of typed expressions.
+//! A small module with its core, a module with calls, and what is not well typed.
 
 ghost use Rattle.typing_rules.specs.Examples as example;
 ghost use Rattle.typing_rules.specs.Picked.{PickedStands};
-ghost use Rattle.typing_rules.specs.TypesAgree.{SettledAgree, WantedAgree};
-ghost use Rattle.typing_rules.specs.Clean.{SettledIsClean, WantedIsClean, CallIsClean};
-ghost use Rattle.typing_rules.specs.Laws.{StandingIsFaultless, FaultlessIsTyped, ExactlyOne, OneCore};
 
 /// The module stands for its core, and the prefixes of a chain are told from chains of their own.
 #[tactic(auto, using(crate::proofs::Examples::examples))]
@@ -35,41 +32,8 @@ pub fn statement_examples()
     ensures back { example.CallsGoBack }
 {}
 
-/// Both definitions give an expression the same type.
-#[tactic(auto, using(crate::proofs::TypesAgree::agreement))]
-pub fn types_agree()
-    ensures settled { SettledAgree }
-    ensures wanted { WantedAgree }
-{}
-
-/// An expression that is typed breaks no rule.
-#[tactic(auto, using(crate::proofs::Clean::clean_laws))]
-pub fn typed_expressions_are_clean()
-    ensures settled { SettledIsClean }
-    ensures wanted { WantedIsClean }
-{}
-
-/// A call that stands breaks no rule.
-pub fn typed_calls_are_clean()
-    ensures { CallIsClean }
-{}
-
-/// A module that stands for a core breaks no rule.
-pub fn typed_modules_are_clean()
-    ensures { StandingIsFaultless }
-{}
-
-/// A module that breaks no rule stands for a core.
-pub fn clean_modules_are_typed()
-    ensures { FaultlessIsTyped }
-{}
-
-/// A module is well typed or has a first fault, and not both.
-pub fn typed_or_faulty()
-    ensures { ExactlyOne }
-{}
-
-/// A module stands for one core at most.
-pub fn modules_have_one_core()
-    ensures { OneCore }
+/// What an import may write.
+#[tactic(auto, using(crate::proofs::Examples::indices_are_not_written))]
+pub fn import_example()
+    ensures { example.IndicesAreNotWritten }
 {}

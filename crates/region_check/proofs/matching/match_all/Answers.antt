@@ -20,7 +20,7 @@ returns-in_err-match_argument-clause-err c =
 pub loop-i-preserved : goal.loop-i-preserved
 loop-i-preserved c =
     so_far_more c.args.params.now c.args.args.now c.loop-i.i c.index-params-i.result c.index-args-i.result c.loop-i.subst c.match_argument.new.subst c.loop-i.invariant c.loop-i-test.true c.requires.equal c.index-params-i.is c.index-args-i.is
-    c.in_ok-match_argument.ensures.ok.0 c.in_ok-match_argument.ensures.ok.1
+    c.in_ok-match_argument.ensures.ok c.in_ok-match_argument.ensures.learns
 
 pub returns-clause-ok : goal.returns-clause-ok
 returns-clause-ok c = all_found c.args.params.now c.args.args.now c.loop-i.i c.loop-i.subst c.loop-i.invariant c.loop-i-test.false c.requires.equal

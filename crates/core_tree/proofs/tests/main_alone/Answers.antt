@@ -1,6 +1,0 @@
-use Rattle.std.proofs.Common.{true}
-use Rattle.core_tree.proofs.Examples.{bare_is_valid}
-use Rattle.core_tree.proofs.tests.main_alone.Goals as goal
-
-pub new-requires-6 : goal.new-requires-6
-new-requires-6 c = rw (c.in_ok-push.ensures.ok, c.new-procs.ensures, c.new-structs.ensures, c.new-5.ensures, c.new-areas.ensures, c.new-imports.ensures, c.new.ensures, c.new-2.ensures, c.new-3.ensures, c.new-4.ensures) (bare_is_valid _ true)

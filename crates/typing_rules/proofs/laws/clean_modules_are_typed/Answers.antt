@@ -1,6 +1,0 @@
-use Rattle.typing_rules.proofs.ExactlyOne.{faultless_is_typed}
-use Rattle.typing_rules.proofs.laws.clean_modules_are_typed.Goals as goal
-
--- src/laws.rt:63:1
-pub returns : goal.returns
-returns c = faultless_is_typed

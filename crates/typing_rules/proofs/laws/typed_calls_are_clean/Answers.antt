@@ -1,6 +1,0 @@
-use Rattle.typing_rules.proofs.CleanCalls.{call_is_clean}
-use Rattle.typing_rules.proofs.laws.typed_calls_are_clean.Goals as goal
-
--- src/laws.rt:45:1
-pub returns : goal.returns
-returns c = call_is_clean

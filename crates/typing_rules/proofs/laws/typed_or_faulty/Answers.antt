@@ -1,6 +1,0 @@
-use Rattle.typing_rules.proofs.ExactlyOne.{exactly_one}
-use Rattle.typing_rules.proofs.laws.typed_or_faulty.Goals as goal
-
--- src/laws.rt:68:1
-pub returns : goal.returns
-returns c = exactly_one

@@ -7,7 +7,6 @@ use Rattle.c_ast.specs.Syntax.{TranslationUnit}
 use Rattle.c_text.specs.Spelling.{unit_text}
 use Rattle.c_lower.specs.Compiled.{Compiled}
 use Rattle.c_lower.specs.Lowered.{lowered}
-use Rattle.c_lower.specs.Refines.{Refines}
 use Rattle.c_lower.proofs.Follows.{lowered_refines}
 use Rattle.c_lower.proofs.Declared.{lowered_reads_back}
 use Rattle.c_lower.proofs.Shaped.{lowered_shape}

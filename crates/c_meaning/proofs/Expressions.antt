@@ -4,7 +4,7 @@ use Rattle.std.proofs.Common.{◌≡◌, ℕ, suc, ℤ, pos, Bool, true, false, 
 use Rattle.std.specs.Prelude.{⊤, All, map, ◌++◌, if◌then◌else◌}
 use Rattle.std.specs.Option.{option_map, option_and_then}
 use Rattle.std.specs.Ordering.{int_eq}
-use Rattle.std.proofs.lemmas.List.Elements.{All-head, All-tail, All-nil, All-cons}
+use Rattle.std.proofs.lemmas.List.Elements.{All-head, All-tail}
 use Rattle.iv_words.specs.Words.{same_word}
 use Rattle.iv_words.specs.Kinds.{width, is_signed}
 use Rattle.c_ast.specs.declared.Target.{Target}

@@ -15,7 +15,7 @@ use Rattle.c_ast.specs.declared.CType.{CType}
 use Rattle.c_ast.specs.declared.CType.TheVariants.{Void, Value}
 use Rattle.c_ast.specs.declared.Suffix.TheVariants.{Plain, U}
 use Rattle.c_ast.specs.declared.CExtern.{CExtern}
-use Rattle.c_ast.specs.declared.CBinary.TheVariants.{Div, Lt}
+use Rattle.c_ast.specs.declared.CBinary.TheVariants.{Div}
 use Rattle.c_ast.specs.Syntax.{Name, Expr, Number, Read, Binary, Var, Stmt, Const, ConstCall, If, IfElse, Forever, Break, Return, Block, Call, Nil, Function, TranslationUnit}
 use Rattle.c_ast.specs.Examples.{rows, procedure, unit_with}
 use Rattle.c_meaning.specs.Laws.{no_site, watched}

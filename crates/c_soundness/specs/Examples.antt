@@ -77,3 +77,11 @@ pub record NeededRules : Type 0 where
 -- `uint8_t iv_y; iv_y = 3; iv_fill((&iv_y)); iv_led(iv_y);`, of which the outside sees and writes the object behind a pointer
 abbrev pub RightUnit : Type 0
 RightUnit = broken (unit_of [] [] (plain ∷ set (number 3) ∷ gives (codes "iv_fill") (Address (Var (codes "iv_y"))) ∷ show y ∷ [])) ≡ []
+
+-- `extern uint8_t *iv_get(void);`, which no text of the subset spells and no rule forbids, and a call of it
+abbrev pub from_outside : TranslationUnit
+from_outside = unit_with (record { name = codes "iv_get"; params = []; result = Pointer false byte } ∷ []) (procedure false (codes "iv_main") (plain_call (codes "iv_get") ∷ []) ∷ [])
+
+pub record SubsetIsNeeded : Type 0 where
+  pub right : broken from_outside ≡ []
+  pub stuck : watched_once from_outside 9 ≡ lost

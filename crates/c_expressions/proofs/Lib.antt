@@ -1,4 +1,4 @@
 pub mod Frames
-pub mod Exits
+pub mod Choices
 pub mod Meanings
 pub mod Members

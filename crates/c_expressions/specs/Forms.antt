@@ -23,13 +23,13 @@ form_tree (Array n element) = trees.Many n (tree_of element.now)
 form_tree (Struct name fields) = trees.Struct name.now (row_from (map field_of fields.now))
 
 -- the first member of a name, with its offset in members that may begin at `o`
-abbrev pub Found_from : Target → ℕ → CRow → Name → Found → Type 0
-Found_from t o r m found.Missing = member_tree r m ≡ None
-Found_from t o r m found.TooFar = Unit {0}
-Found_from t o r m (found.At at shape) = (member_tree r m ≡ Some (tree_of shape.now)) × (offset_row (metric_of t) r (index_of r m) [] o ≡ at)
+abbrev pub FoundFrom : Target → ℕ → CRow → Name → Found → Type 0
+FoundFrom t o r m found.Missing = member_tree r m ≡ None
+FoundFrom t o r m found.TooFar = Unit {0}
+FoundFrom t o r m (found.At at shape) = (member_tree r m ≡ Some (tree_of shape.now)) × (offset_row (metric_of t) r (index_of r m) [] o ≡ at)
 
 abbrev pub Finds : Target → CRow → Name → Found → Type 0
-Finds t r m what = Found_from t 0 r m what
+Finds t r m what = FoundFrom t 0 r m what
 
 -- one member, which may begin at `o`
 abbrev pub Steps : Target → Name × CTree → Name → ℕ → Step → Type 0

@@ -1,3 +1,3 @@
-pub mod Fronts
+pub mod Once
 pub mod Answered
 pub mod Steps

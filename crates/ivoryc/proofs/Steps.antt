@@ -1,6 +1,5 @@
 -- The answers of the steps of a call make up what the call promises.
 use Rattle.std.proofs.Common.{◌≡◌, ℕ, List, Some, None, Result, Ok, Err, refl, sym, ap, subst, inl, inr, arith}
-use Rattle.iv_base.specs.Stores.{Gives}
 use Rattle.c_ast.specs.declared.CUnit.{CUnit}
 use Rattle.c_ast.specs.declared.Target.TheVariants.{T32}
 use Rattle.c_ast.specs.View.{unit_of}
@@ -8,22 +7,26 @@ use Rattle.c_text.specs.Spelling.{unit_text}
 use Rattle.c_text.specs.ReadsBack.{ReadsBack}
 use Rattle.c_grammar.proofs.Texts.{texts_apart}
 use Rattle.ivory_lexer.specs.Limits.{source_limit}
+use Rattle.module_text.specs.Verdicts.{Judged}
+use Rattle.ivoryc.specs.declared.command.Command.{Command}
 use Rattle.ivoryc.specs.declared.command.Command.TheVariants.{Emit}
+use Rattle.ivoryc.specs.declared.input_fault.InputFault.{InputFault}
+use Rattle.ivoryc.specs.declared.input_fault.InputFault.TheVariants as input
 use Rattle.ivoryc.specs.declared.refusal.Refusal.{Refusal}
 use Rattle.ivoryc.specs.declared.refusal.Refusal.TheVariants as refusal
 use Rattle.ivoryc.specs.declared.status.Status.{Status}
 use Rattle.ivoryc.specs.declared.status.Status.TheVariants as status
 use Rattle.ivoryc.specs.Commands.{command}
-use Rattle.ivoryc.specs.Texts.{usage_line, read_fault_line, too_large_line, not_built_line}
-use Rattle.module_text.specs.Lines.{fault_line}
-use Rattle.module_text.specs.Verdicts.{Verdict, TooLong, Faulty, Reads, Judged}
-use Rattle.ivoryc.specs.Calls.{StoreSeen, SinkSeen, Change, Call, Unchanged, Took, FailedAt}
-use Rattle.ivoryc.specs.Promise.{FirstForm, IsCompiled, Emits, Due, IsAnswered, Promise}
-use Rattle.ivoryc.specs.Steps.{LoadsAtMostOnce, IsUnitOf, Made, Written, HasText, IsJudged, Emitted, Ran, Tells, Reported}
+use Rattle.ivoryc.specs.Texts.{usage_line, read_fault_line}
+use Rattle.ivoryc.specs.Causes.{status_of, line_of, answer_of}
+use Rattle.ivoryc.specs.Calls.{StoreSeen, SinkSeen, Change, Call, Unchanged, Took, FailedAt, StandsUnder}
+use Rattle.ivoryc.specs.Headline.{IsCompiled}
+use Rattle.ivoryc.specs.Answers.{Compiles, Comes, compiled, too_long, at_fault, not_built}
+use Rattle.ivoryc.specs.Promise.{ComesTo, IsCommand, Writes, Due, IsAnswered, files_named, Promise}
+use Rattle.ivoryc.specs.Steps.{LoadsAtMost, IsWhole, Loaded, IsUnitOf, Made, Written, Wrote, Performed, Ran, Tells, Reported}
 use Rattle.ivoryc.proofs.Answered.{promise_from}
-use Rattle.ivoryc.proofs.Fronts.{some_text, verdict_stands}
 
--- ---- the parts of `emit`
+-- ---- `emit`
 
 -- the unit's own text reads back as it
 is_compiled : (text : List ℕ) (u : CUnit) → IsUnitOf text u → IsCompiled text (unit_text (unit_of u))
@@ -39,57 +42,54 @@ is_compiled text u is =
       only = λ v spells. texts_apart v (unit_of u) (unit_text (unit_of u)) spells (record { in_subset = is.compiled.reads_back.spelled.in_subset; is = refl });
     }
 
-judged_so : (file front seen : List ℕ) (store : Change StoreSeen) (out : Change SinkSeen) (v : Verdict) → Gives store.before.holds file source_limit front
-    → seen ≡ front → Judged seen v → Unchanged out → IsJudged v file store out
-judged_so file front seen store out v gives is j same =
-    let Says : List ℕ → Type 0 = λ t. Judged t v in
-    let found = verdict_stands store.before.holds file front v gives (subst Says is j) in
-    record { text = found.text; stands = found.stands; judged = found.judged; out = same }
+-- what was made of a text that stands under the name tells what the command comes to
+emits_so : (file text : List ℕ) (store : Change StoreSeen) (f : InputFault) → StandsUnder store.before.holds file text → Made text (Err (refusal.Input f))
+    → Comes (StandsUnder store.before.holds) (Emit file) (answer_of f)
+emits_so file text store input.TooLarge stands made = too_long stands made
+emits_so file text store (input.Module f) stands made = at_fault stands made
+emits_so file text store input.NotBuilt stands made = not_built stands made
 
-pub emitted_unmade : (file front seen : List ℕ) (store : Change StoreSeen) (out : Change SinkSeen) (r : Refusal) → Gives store.before.holds file source_limit front
-    → seen ≡ front → Made seen (Err r) → Unchanged out → Emitted file store out (Err r)
-emitted_unmade file front seen store out refusal.Words gives is made same = absurd made
-emitted_unmade file front seen store out refusal.ReadFault gives is made same = absurd made
-emitted_unmade file front seen store out refusal.WriteFault gives is made same = absurd made
-emitted_unmade file front seen store out refusal.Memory gives is made same = same
-emitted_unmade file front seen store out refusal.TooLarge gives is made same = judged_so file front seen store out TooLong gives is made same
-emitted_unmade file front seen store out (refusal.Fault f) gives is made same = judged_so file front seen store out (Faulty (fault_line f)) gives is made same
-emitted_unmade file front seen store out refusal.NotBuilt gives is made same =
-    let Says : List ℕ → Type 0 = λ t. Judged t (Reads made.tree) in
-    let found = verdict_stands store.before.holds file front (Reads made.tree) gives (subst Says is made.read) in
-    record { text = found.text; stands = found.stands; unbuilt = record { tree = made.tree; read = found.judged; none = made.none }; out = same }
+pub emit_unloaded : (file : List ℕ) (store : Change StoreSeen) (out : Change SinkSeen) (r : Refusal) → Loaded file source_limit store (Err r) → Unchanged out
+    → Performed (Emit file) store out (Err r)
+emit_unloaded file store out refusal.Words loaded same = absurd loaded
+emit_unloaded file store out refusal.ReadFault loaded same = (loaded, same)
+emit_unloaded file store out refusal.WriteFault loaded same = absurd loaded
+emit_unloaded file store out refusal.Memory loaded same = same
+emit_unloaded file store out (refusal.Input input.TooLarge) loaded same = (too_long loaded.stands (Judged.too_long loaded.long), same)
+emit_unloaded file store out (refusal.Input (input.Module f)) loaded same = absurd loaded
+emit_unloaded file store out (refusal.Input input.NotBuilt) loaded same = absurd loaded
 
-has_text : (file front seen : List ℕ) (store : Change StoreSeen) (u : CUnit) → Gives store.before.holds file source_limit front → seen ≡ front → IsUnitOf seen u
-    → (has : HasText file store) × (has.bytes ≡ unit_text (unit_of u))
-has_text file front seen store u gives same is =
-    let Says : List ℕ → Type 0 = λ t. Judged t (Reads is.form.tree) in
-    let found = verdict_stands store.before.holds file front (Reads is.form.tree) gives (subst Says same is.form.read) in
-    let form : FirstForm found.text is.core = record { tree = is.form.tree; read = found.judged; stands = is.form.stands } in (
-      record {
-        text = found.text;
-        stands = found.stands;
-        bytes = unit_text (unit_of u);
-        compiled = is_compiled found.text u (record { core = is.core; form = form; compiled = is.compiled });
-      },
-      refl,
-    )
+pub emit_unmade : (file text seen : List ℕ) (store : Change StoreSeen) (out : Change SinkSeen) (r : Refusal) → IsWhole file source_limit store text
+    → seen ≡ text → Made seen (Err r) → Unchanged out → Performed (Emit file) store out (Err r)
+emit_unmade file text seen store out refusal.Words whole is made same = absurd made
+emit_unmade file text seen store out refusal.ReadFault whole is made same = absurd made
+emit_unmade file text seen store out refusal.WriteFault whole is made same = absurd made
+emit_unmade file text seen store out refusal.Memory whole is made same = same
+emit_unmade file text seen store out (refusal.Input f) whole is made same =
+    let Says : List ℕ → Type 0 = λ t. Made t (Err (refusal.Input f)) in
+    (emits_so file text store f whole.stands (subst Says is made), same)
 
-pub emitted_written : (file text seen : List ℕ) (store : Change StoreSeen) (out : Change SinkSeen) (u : CUnit) (r : Result (Unit {0}) Refusal)
-    → Gives store.before.holds file source_limit text → seen ≡ text → IsUnitOf seen u → Written (unit_text (unit_of u)) out r → Emitted file store out r
-emitted_written file text seen store out u (Ok done) gives same is written =
-    let found = has_text file text seen store u gives same is in
-    let Takes : List ℕ → Type 0 = λ bytes. Took out bytes in
-    record { has = found.0; out = subst Takes (sym found.1) written }
-emitted_written file text seen store out u (Err refusal.Words) gives same is written = absurd written
-emitted_written file text seen store out u (Err refusal.ReadFault) gives same is written = absurd written
-emitted_written file text seen store out u (Err refusal.WriteFault) gives same is written =
-    let found = has_text file text seen store u gives same is in
-    let Fails : List ℕ → Type 0 = λ bytes. FailedAt out bytes in
-    record { has = found.0; out = subst Fails (sym found.1) written }
-emitted_written file text seen store out u (Err refusal.Memory) gives same is written = absurd written
-emitted_written file text seen store out u (Err refusal.TooLarge) gives same is written = absurd written
-emitted_written file text seen store out u (Err (refusal.Fault f)) gives same is written = absurd written
-emitted_written file text seen store out u (Err refusal.NotBuilt) gives same is written = absurd written
+has_text : (file text seen : List ℕ) (store : Change StoreSeen) (Done : List ℕ → Type 0) (u : CUnit) → IsWhole file source_limit store text → seen ≡ text
+    → IsUnitOf seen u → Done (unit_text (unit_of u)) → Wrote (Emit file) store Done
+has_text file text seen store Done u whole same is done =
+    let Says : List ℕ → Type 0 = λ t. IsUnitOf t u in
+    let unit : IsUnitOf text u = subst Says same is in
+    record {
+      answer = Compiles text;
+      comes = compiled whole.stands unit.form;
+      bytes = unit_text (unit_of u);
+      allowed = is_compiled text u unit;
+      done = done;
+    }
+
+pub emit_written : (file text seen : List ℕ) (store : Change StoreSeen) (out : Change SinkSeen) (u : CUnit) (r : Result (Unit {0}) Refusal)
+    → IsWhole file source_limit store text → seen ≡ text → IsUnitOf seen u → Written (unit_text (unit_of u)) out r → Performed (Emit file) store out r
+emit_written file text seen store out u (Ok done) whole same is written = has_text file text seen store (Took out) u whole same is written
+emit_written file text seen store out u (Err refusal.Words) whole same is written = absurd written
+emit_written file text seen store out u (Err refusal.ReadFault) whole same is written = absurd written
+emit_written file text seen store out u (Err refusal.WriteFault) whole same is written = has_text file text seen store (FailedAt out) u whole same is written
+emit_written file text seen store out u (Err refusal.Memory) whole same is written = absurd written
+emit_written file text seen store out u (Err (refusal.Input f)) whole same is written = absurd written
 
 -- ---- from a command's answer to the call's
 
@@ -114,32 +114,30 @@ none_answered c none out reported =
 memory_answered : (c : Call) → Unchanged c.out → Reported refusal.Memory c.status c.err → IsAnswered c c.status
 memory_answered c out (is, err) = answered c status.Memory is (record { out = out; err = err })
 
-emit_answered : (c : Call) (r : Result (Unit {0}) Refusal) (file : List ℕ) → command c.words ≡ Some (Emit file) → Emitted file c.store c.out r
+-- what is wrong with an input is answered with its status
+input_where : (c : Call) (f : InputFault) → ComesTo c (answer_of f) → Unchanged c.out → Took c.err (line_of f) → IsAnswered c (status_of f)
+input_where c input.TooLarge p out err = record { line = _; comes_to = p; out = out; err = err }
+input_where c (input.Module f) p out err = record { line = _; comes_to = p; out = out; err = err }
+input_where c input.NotBuilt p out err = record { line = _; comes_to = p; out = out; err = err }
+
+writes : (c : Call) (asked : Command) (Done : List ℕ → Type 0) → command c.words ≡ Some asked → (w : Wrote asked c.store Done) → Writes c w.bytes
+writes c asked Done is w = record { answer = w.answer; comes_to = record { asked = asked; is = is; comes = w.comes }; allowed = w.allowed }
+
+command_answered : (c : Call) (r : Result (Unit {0}) Refusal) (asked : Command) → command c.words ≡ Some asked → Performed asked c.store c.out r
     → Ends r c.status c.err → IsAnswered c c.status
-emit_answered c (Ok done) file asked e (is, err) =
-    answered c status.Done is
-    (record { emits = record { file = file; asked = asked; text = e.has.text; stands = e.has.stands }; bytes = e.has.bytes; compiled = e.has.compiled; out = e.out; err = err })
-emit_answered c (Err refusal.Words) file asked e ends = absurd e
-emit_answered c (Err refusal.ReadFault) file asked e ends =
-    let some = some_text c.store.before.holds file in
-    let emits : Emits c = record { file = file; asked = asked; text = some.0; stands = some.1 } in
-    told c read_fault_line status.ReadFault (Due.read_fault emits e.unread) e.out ends
-    (λ took. record { emits = emits; unread = e.unread; out = e.out; err = took })
-emit_answered c (Err refusal.WriteFault) file asked e (is, err) =
-    answered c status.WriteFault is
-    (inl
-    (record { emits = record { file = file; asked = asked; text = e.has.text; stands = e.has.stands }; bytes = e.has.bytes; compiled = e.has.compiled; out = e.out; err = err }))
-emit_answered c (Err refusal.Memory) file asked e ends = memory_answered c e ends
-emit_answered c (Err refusal.TooLarge) file asked e ends =
-    let emits : Emits c = record { file = file; asked = asked; text = e.text; stands = e.stands } in
-    told c too_large_line status.TooLarge (Due.too_large emits e.judged) e.out ends (λ took. record { emits = emits; long = e.judged; out = e.out; err = took })
-emit_answered c (Err (refusal.Fault f)) file asked e ends =
-    let emits : Emits c = record { file = file; asked = asked; text = e.text; stands = e.stands } in
-    told c (fault_line f) status.Refused (Due.refused emits e.judged) e.out ends
-    (λ took. record { emits = emits; line = fault_line f; faulty = e.judged; out = e.out; err = took })
-emit_answered c (Err refusal.NotBuilt) file asked e ends =
-    let emits : Emits c = record { file = file; asked = asked; text = e.text; stands = e.stands } in
-    told c not_built_line status.NotBuilt (Due.not_built emits e.unbuilt) e.out ends (λ took. record { emits = emits; unbuilt = e.unbuilt; out = e.out; err = took })
+command_answered c (Ok done) asked is w (ends, err) =
+    answered c status.Done ends (record { bytes = w.bytes; writes = writes c asked (Took c.out) is w; out = w.done; err = err })
+command_answered c (Err refusal.Words) asked is w ends = absurd w
+command_answered c (Err refusal.ReadFault) asked is (unread, out) ends =
+    let known : IsCommand c = record { asked = asked; is = is } in
+    told c read_fault_line status.ReadFault (Due.read_fault known unread) out ends
+    (λ took. record { is_command = known; unread = unread; out = out; err = took })
+command_answered c (Err refusal.WriteFault) asked is w (ends, err) =
+    answered c status.WriteFault ends (inl (record { bytes = w.bytes; writes = writes c asked (FailedAt c.out) is w; out = w.done; err = err }))
+command_answered c (Err refusal.Memory) asked is out ends = memory_answered c out ends
+command_answered c (Err (refusal.Input f)) asked is (comes, out) ends =
+    let p : ComesTo c (answer_of f) = record { asked = asked; is = is; comes = comes } in
+    told c (line_of f) (status_of f) (Due.refused p) out ends (λ took. input_where c f p out took)
 
 -- a store that nothing was asked of
 promise_unasked : (c : Call) → IsAnswered c c.status → Unchanged c.store → Promise c
@@ -148,13 +146,13 @@ promise_unasked c answer same =
     let faults : c.store.after.faults ≡ c.store.before.faults = ap (λ s. s.faults) same in
     promise_from c answer (omega arith) (ap (λ s. s.holds) same) (omega arith)
 
--- a store that was asked once, for the file of the command
-promise_asked : (c : Call) (file : List ℕ) → command c.words ≡ Some (Emit file) → IsAnswered c c.status → LoadsAtMostOnce c.store → Promise c
-promise_asked c file asked answer once = promise_from c answer (rw asked (let loads = once.loads in omega arith)) once.holds once.later
+-- a store that was asked for the files of the command
+promise_asked : (c : Call) (asked : Command) → command c.words ≡ Some asked → IsAnswered c c.status → LoadsAtMost (files_named (Some asked)) c.store → Promise c
+promise_asked c asked is answer most = promise_from c answer (rw is most.loads) most.holds most.later
 
 promised : (c : Call) (r : Result (Unit {0}) Refusal) → Ran c.words c.store c.out r → Ends r c.status c.err → Promise c
 promised c r (Ran.no_command none store out) ends = promise_unasked c (none_answered c none out ends) store
-promised c r (Ran.performed (Emit file) asked once emitted) ends = promise_asked c file asked (emit_answered c r file asked emitted ends) once
+promised c r (Ran.performed asked is most performed) ends = promise_asked c asked is (command_answered c r asked is performed ends) most
 promised c r (Ran.no_memory store out) ends = promise_unasked c (memory_answered c out ends) store
 
 pub promised_done : (c : Call) (r : Result (Unit {0}) Refusal) (done : Unit {0}) → r ≡ Ok done → Ran c.words c.store c.out r → c.status ≡ status.Done

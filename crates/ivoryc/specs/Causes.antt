@@ -1,16 +1,38 @@
--- Which refusal a fault of a load or of a text becomes.
+-- Which refusal a fault of a load or of a text becomes, and how a fault of an input is told.
+use Rattle.std.specs.Prelude.{ℕ, List}
 use Rattle.iv_base.specs.declared.LoadFault.{LoadFault}
-use Rattle.iv_base.specs.declared.LoadFault.TheVariants.{Fault, Memory}
+use Rattle.iv_base.specs.declared.LoadFault.TheVariants as load
+use Rattle.module_text.specs.Lines.{fault_line}
 use Rattle.module_text.specs.declared.TextFault.{TextFault}
 use Rattle.module_text.specs.declared.TextFault.TheVariants as text
+use Rattle.ivoryc.specs.declared.input_fault.InputFault.{InputFault}
+use Rattle.ivoryc.specs.declared.input_fault.InputFault.TheVariants as input
 use Rattle.ivoryc.specs.declared.refusal.Refusal.{Refusal}
 use Rattle.ivoryc.specs.declared.refusal.Refusal.TheVariants as refusal
+use Rattle.ivoryc.specs.declared.status.Status.{Status}
+use Rattle.ivoryc.specs.declared.status.Status.TheVariants as status
+use Rattle.ivoryc.specs.Texts.{too_large_line, not_built_line}
+use Rattle.ivoryc.specs.Answers.{Answer, Refuses}
 
 abbrev pub refusal_of_load : LoadFault → Refusal
-refusal_of_load Fault = refusal.ReadFault
-refusal_of_load Memory = refusal.Memory
+refusal_of_load load.Fault = refusal.ReadFault
+refusal_of_load load.Memory = refusal.Memory
 
 abbrev pub refusal_of_text : TextFault → Refusal
-refusal_of_text text.TooLarge = refusal.TooLarge
-refusal_of_text (text.At f) = refusal.Fault f
+refusal_of_text text.TooLarge = refusal.Input input.TooLarge
+refusal_of_text (text.At f) = refusal.Input (input.Module f)
 refusal_of_text text.Memory = refusal.Memory
+
+-- the status and the line of a fault of an input
+abbrev pub status_of : InputFault → Status
+status_of input.TooLarge = status.TooLarge
+status_of (input.Module f) = status.Refused
+status_of input.NotBuilt = status.NotBuilt
+
+abbrev pub line_of : InputFault → List ℕ
+line_of input.TooLarge = too_large_line
+line_of (input.Module f) = fault_line f
+line_of input.NotBuilt = not_built_line
+
+abbrev pub answer_of : InputFault → Answer
+answer_of fault = Refuses (status_of fault) (line_of fault)

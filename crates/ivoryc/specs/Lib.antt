@@ -1,7 +1,9 @@
 pub mod Commands
 pub mod Texts
 pub mod Statuses
-pub mod Causes
 pub mod Calls
+pub mod Headline
+pub mod Answers
+pub mod Causes
 pub mod Promise
 pub mod Steps

@@ -1,66 +1,48 @@
 -- What each call of the program promises: why it answered its status, what it wrote, and which statuses it must answer.
 use Rattle.std.specs.Prelude.{◌≡◌, ℕ, ◌+◌, ◌≤◌, ◌⊎◌, List, Option, Some, None}
-use Rattle.iv_base.specs.Stores.{FileMap, text_of}
-use Rattle.ivory_tree.specs.View.{module_of}
-use Rattle.ivory_tree.specs.declared.Module.{Module}
-use Rattle.first_form.specs.declared.FirstModule.{FirstModule}
-use Rattle.first_form.specs.Stands.{Stands}
-use Rattle.c_ast.specs.declared.Target.TheVariants.{T32}
-use Rattle.c_ast.specs.Syntax.{TranslationUnit}
-use Rattle.c_text.specs.ReadsBack.{Spells, ReadsBack}
-use Rattle.c_lower.specs.Shape.{Shape}
-use Rattle.c_lower.specs.Refines.{Refines}
+use Rattle.iv_base.specs.Stores.{FileMap}
 use Rattle.ivoryc.specs.declared.command.Command.{Command}
 use Rattle.ivoryc.specs.declared.command.Command.TheVariants.{Emit}
 use Rattle.ivoryc.specs.declared.status.Status.{Status}
 use Rattle.ivoryc.specs.declared.status.Status.TheVariants as status
 use Rattle.ivoryc.specs.Commands.{command}
-use Rattle.ivoryc.specs.Texts.{usage_line, read_fault_line, too_large_line, memory_line, not_built_line}
-use Rattle.module_text.specs.Verdicts.{TooLong, Faulty, Reads, Judged}
-use Rattle.ivoryc.specs.Calls.{Call, Unchanged, Unread, Unwritten, Took, FailedAt, StandsUnder}
+use Rattle.ivoryc.specs.Texts.{usage_line, read_fault_line, memory_line}
+use Rattle.ivoryc.specs.Calls.{StoreSeen, SinkSeen, Change, Call, Unchanged, Unread, Unwritten, Took, FailedAt, StandsUnder}
+use Rattle.ivoryc.specs.Answers.{Answer, Compiles, Refuses, Allows, status_of, Comes}
 
--- ---- modules that are compiled so far
+-- ---- what the words ask for
 
--- the text of a tree that stands for a module of the first form
-pub record FirstForm (text : List ℕ) (core : FirstModule) : Type 0 where
-  pub tree : Module
-  pub read : Judged text (Reads tree)
-  pub stands : Stands (module_of tree) core
+-- a command, which comes to this over what stands under the names of its files
+pub record ComesTo (c : Call) (a : Answer) : Type 0 where
+  pub asked : Command
+  pub is : command c.words ≡ Some asked
+  pub comes : Comes (StandsUnder c.store.before.holds) asked a
 
--- the text of a tree that stands for no such module
-pub record IsUnbuilt (text : List ℕ) : Type 0 where
-  pub tree : Module
-  pub read : Judged text (Reads tree)
-  pub none : (core : FirstModule) → ¬ Stands (module_of tree) core
+-- some command
+pub record IsCommand (c : Call) : Type 0 where
+  pub asked : Command
+  pub is : command c.words ≡ Some asked
 
--- ---- the headline: C text that does what a module text says
-
--- These bytes are the text of a unit, and of no other, with the shape of the module that the text stands for, and the unit does what the
--- module does: for every script and every number of steps, both ways, and never undefined.
-pub record IsCompiled (text bytes : List ℕ) : Type 0 where
-  pub core : FirstModule
-  pub form : FirstForm text core
-  pub unit : TranslationUnit
-  pub reads_back : ReadsBack unit bytes T32
-  pub only : (other : TranslationUnit) → Spells other bytes → other ≡ unit
-  pub shape : Shape core unit
-  pub refines : Refines core unit T32
+-- a command that is to write these bytes
+pub record Writes (c : Call) (bytes : List ℕ) : Type 0 where
+  pub answer : Answer
+  pub comes_to : ComesTo c answer
+  pub allowed : Allows answer bytes
 
 -- ---- why a status was answered, and what was written
 
--- `emit FILE`, and the text under that name
-pub record Emits (c : Call) : Type 0 where
-  pub file : List ℕ
-  pub asked : command c.words ≡ Some (Emit file)
-  pub text : List ℕ
-  pub stands : StandsUnder c.store.before.holds file text
-
 pub record WhereDone (c : Call) : Type 0 where
-  pub emits : Emits c
   pub bytes : List ℕ
-  pub compiled : IsCompiled emits.text bytes
+  pub writes : Writes c bytes
   pub out : Took c.out bytes
   pub err : Unchanged c.err
+
+-- what stands under a name is refused, with this status
+pub record WhereRefused (c : Call) (s : Status) : Type 0 where
+  pub line : List ℕ
+  pub comes_to : ComesTo c (Refuses s line)
+  pub out : Unchanged c.out
+  pub err : Took c.err line
 
 pub record WhereWords (c : Call) : Type 0 where
   pub asked : command c.words ≡ None
@@ -68,45 +50,22 @@ pub record WhereWords (c : Call) : Type 0 where
   pub err : Took c.err usage_line
 
 pub record WhereReadFault (c : Call) : Type 0 where
-  pub emits : Emits c
+  pub is_command : IsCommand c
   pub unread : Unread c.store
   pub out : Unchanged c.out
   pub err : Took c.err read_fault_line
 
--- the text has a fault, which the line tells
-pub record WhereRefused (c : Call) : Type 0 where
-  pub emits : Emits c
-  pub line : List ℕ
-  pub faulty : Judged emits.text (Faulty line)
-  pub out : Unchanged c.out
-  pub err : Took c.err line
-
-pub record WhereTooLarge (c : Call) : Type 0 where
-  pub emits : Emits c
-  pub long : Judged emits.text TooLong
-  pub out : Unchanged c.out
-  pub err : Took c.err too_large_line
-
-pub record WhereNotBuilt (c : Call) : Type 0 where
-  pub emits : Emits c
-  pub unbuilt : IsUnbuilt emits.text
-  pub out : Unchanged c.out
-  pub err : Took c.err not_built_line
-
 pub record WhereOutFailed (c : Call) : Type 0 where
-  pub emits : Emits c
   pub bytes : List ℕ
-  pub compiled : IsCompiled emits.text bytes
+  pub writes : Writes c bytes
   pub out : FailedAt c.out bytes
   pub err : Unchanged c.err
 
 -- a line for which there was a cause
 pub data Due (c : Call) : List ℕ → Type 0 where
   words : command c.words ≡ None → Due c usage_line
-  read_fault : Emits c → Unread c.store → Due c read_fault_line
-  too_large : (e : Emits c) → Judged e.text TooLong → Due c too_large_line
-  refused : {line : List ℕ} (e : Emits c) → Judged e.text (Faulty line) → Due c line
-  not_built : (e : Emits c) → IsUnbuilt e.text → Due c not_built_line
+  read_fault : IsCommand c → Unread c.store → Due c read_fault_line
+  refused : {s : Status} {line : List ℕ} → ComesTo c (Refuses s line) → Due c line
 
 pub record WhereErrFailed (c : Call) : Type 0 where
   pub line : List ℕ
@@ -121,14 +80,14 @@ pub record WhereMemory (c : Call) : Type 0 where
 
 abbrev pub IsAnswered : Call → Status → Type 0
 IsAnswered c status.Done = WhereDone c
-IsAnswered c status.Refused = WhereRefused c
+IsAnswered c status.Refused = WhereRefused c status.Refused
 IsAnswered c status.Words = WhereWords c
 IsAnswered c status.ReadFault = WhereReadFault c
 IsAnswered c status.WriteFault = WhereOutFailed c ⊎ WhereErrFailed c
 IsAnswered c status.Memory = WhereMemory c
-IsAnswered c status.TooLarge = WhereTooLarge c
-IsAnswered c status.Script = ⊥
-IsAnswered c status.NotBuilt = WhereNotBuilt c
+IsAnswered c status.TooLarge = WhereRefused c status.TooLarge
+IsAnswered c status.Script = WhereRefused c status.Script
+IsAnswered c status.NotBuilt = WhereRefused c status.NotBuilt
 
 -- ---- which status must be answered
 
@@ -136,13 +95,15 @@ IsAnswered c status.NotBuilt = WhereNotBuilt c
 abbrev pub OrMemory : Call → Status → Type 0
 OrMemory c s = (c.status ≡ s) ⊎ (c.status ≡ status.Memory)
 
--- the words ask for the C text of this text
-pub record AsksFor (c : Call) (text : List ℕ) : Type 0 where
-  pub file : List ℕ
-  pub asked : command c.words ≡ Some (Emit file)
+-- the store tells what it holds
+pub record IsTold (store : StoreSeen) : Type 0 where
   pub files : FileMap
-  pub told : c.store.before.holds ≡ Some files
-  pub under : text_of (files file) ≡ text
+  pub holds : store.holds ≡ Some files
+
+-- where an answer is written: a line goes to `err`
+abbrev pub output_for : Call → Answer → Change SinkSeen
+output_for c (Compiles text) = c.out
+output_for c (Refuses s line) = c.err
 
 -- the number of the command's words that stand for a file
 abbrev pub files_named : Option Command → ℕ
@@ -153,11 +114,8 @@ files_named (Some (Emit file)) = 1
 pub record Promise (c : Call) : Type 0 where
   pub answer : IsAnswered c c.status
   pub no_command : command c.words ≡ None → ¬ Unwritten c.err → OrMemory c status.Words
-  pub complete : (text : List ℕ) (core : FirstModule) → AsksFor c text → FirstForm text core → ¬ Unread c.store → ¬ Unwritten c.out
-      → OrMemory c status.Done
-  pub too_large : (text : List ℕ) → AsksFor c text → Judged text TooLong → ¬ Unread c.store → ¬ Unwritten c.err → OrMemory c status.TooLarge
-  pub refused : (text line : List ℕ) → AsksFor c text → Judged text (Faulty line) → ¬ Unread c.store → ¬ Unwritten c.err → OrMemory c status.Refused
-  pub not_built : (text : List ℕ) → AsksFor c text → IsUnbuilt text → ¬ Unread c.store → ¬ Unwritten c.err → OrMemory c status.NotBuilt
+  -- whatever the command comes to
+  pub complete : (a : Answer) → ComesTo c a → IsTold c.store.before → ¬ Unread c.store → ¬ Unwritten (output_for c a) → OrMemory c (status_of a)
   -- at most one load for each word that stands for a file; the store still holds what it held
   pub loads : c.store.after.loads ≤ c.store.before.loads + files_named (command c.words)
   pub holds : c.store.after.holds ≡ c.store.before.holds

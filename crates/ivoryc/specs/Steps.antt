@@ -1,40 +1,54 @@
 -- What the steps of a call answer to one another: the load, the reading, the compilation, the writing, and the report of a refusal.
-use Rattle.std.specs.Prelude.{◌≡◌, ℕ, ◌+◌, ◌≤◌, ◌⊎◌, List, Some, None, Result, Ok, Err}
-use Rattle.iv_base.specs.Stores.{Gives}
-use Rattle.ivory_tree.specs.View.{module_of}
-use Rattle.ivory_tree.specs.declared.Module.{Module}
+use Rattle.std.specs.Prelude.{◌≡◌, ℕ, ◌+◌, ◌≤◌, ◌<◌, ◌⊎◌, List, length, Some, None, Result, Ok, Err}
 use Rattle.first_form.specs.declared.FirstModule.{FirstModule}
-use Rattle.first_form.specs.Stands.{Stands}
-use Rattle.first_form.specs.Valid.{Valid}
 use Rattle.c_ast.specs.declared.CUnit.{CUnit}
 use Rattle.c_ast.specs.declared.Target.TheVariants.{T32}
 use Rattle.c_ast.specs.View.{unit_of}
 use Rattle.c_lower.specs.Compiled.{Compiled}
+use Rattle.module_text.specs.Lines.{fault_line}
+use Rattle.module_text.specs.Verdicts.{TooLong, Faulty, Judged}
 use Rattle.ivoryc.specs.declared.command.Command.{Command}
-use Rattle.ivoryc.specs.declared.command.Command.TheVariants.{Emit}
+use Rattle.ivoryc.specs.declared.input_fault.InputFault.TheVariants as input
 use Rattle.ivoryc.specs.declared.refusal.Refusal.{Refusal}
 use Rattle.ivoryc.specs.declared.refusal.Refusal.TheVariants as refusal
 use Rattle.ivoryc.specs.declared.status.Status.{Status}
 use Rattle.ivoryc.specs.declared.status.Status.TheVariants as status
 use Rattle.ivoryc.specs.Commands.{command}
-use Rattle.ivoryc.specs.Texts.{usage_line, read_fault_line, too_large_line, memory_line, not_built_line}
-use Rattle.module_text.specs.Lines.{fault_line}
-use Rattle.module_text.specs.Verdicts.{Verdict, TooLong, Faulty, Reads, Judged}
+use Rattle.ivoryc.specs.Texts.{usage_line, read_fault_line, memory_line}
+use Rattle.ivoryc.specs.Causes.{status_of, line_of, answer_of}
 use Rattle.ivoryc.specs.Calls.{StoreSeen, SinkSeen, Change, Unchanged, Unread, Took, FailedAt, StandsUnder}
-use Rattle.ivoryc.specs.Promise.{FirstForm, IsUnbuilt, IsCompiled}
+use Rattle.ivoryc.specs.Headline.{FirstForm, IsUnbuilt}
+use Rattle.ivoryc.specs.Answers.{Answer, Allows, Comes}
+use Rattle.ivoryc.specs.Promise.{files_named}
 
--- at most one load, and the store still holds what it held
-pub record LoadsAtMostOnce (store : Change StoreSeen) : Type 0 where
-  pub loads : store.after.loads ≤ store.before.loads + 1
+-- ---- loads
+
+-- so many loads at most, and the store still holds what it held
+pub record LoadsAtMost (most : ℕ) (store : Change StoreSeen) : Type 0 where
+  pub loads : store.after.loads ≤ store.before.loads + most
   pub holds : store.after.holds ≡ store.before.holds
   pub later : store.before.faults ≤ store.after.faults
 
+-- the whole text under the name, which is within the limit
+pub record IsWhole (file : List ℕ) (most : ℕ) (store : Change StoreSeen) (text : List ℕ) : Type 0 where
+  pub stands : StandsUnder store.before.holds file text
+  pub short : length text ≤ most
+
+-- the text under the name is longer
+pub record IsTooLong (file : List ℕ) (most : ℕ) (store : Change StoreSeen) : Type 0 where
+  pub text : List ℕ
+  pub stands : StandsUnder store.before.holds file text
+  pub long : most < length text
+
 -- the text, or why there is none
 abbrev pub Loaded : List ℕ → ℕ → Change StoreSeen → Result (List ℕ) Refusal → Type 0
-Loaded file most store (Ok text) = Gives store.before.holds file most text
+Loaded file most store (Ok text) = IsWhole file most store text
 Loaded file most store (Err refusal.ReadFault) = Unread store
 Loaded file most store (Err refusal.Memory) = Unit {0}
+Loaded file most store (Err (refusal.Input input.TooLarge)) = IsTooLong file most store
 Loaded file most store (Err _) = ⊥
+
+-- ---- compilation
 
 -- a unit for the module that the text stands for
 pub record IsUnitOf (text : List ℕ) (u : CUnit) : Type 0 where
@@ -44,9 +58,9 @@ pub record IsUnitOf (text : List ℕ) (u : CUnit) : Type 0 where
 
 abbrev pub Made : List ℕ → Result CUnit Refusal → Type 0
 Made text (Ok u) = IsUnitOf text u
-Made text (Err refusal.TooLarge) = Judged text TooLong
-Made text (Err (refusal.Fault f)) = Judged text (Faulty (fault_line f))
-Made text (Err refusal.NotBuilt) = IsUnbuilt text
+Made text (Err (refusal.Input input.TooLarge)) = Judged text TooLong
+Made text (Err (refusal.Input (input.Module f))) = Judged text (Faulty (fault_line f))
+Made text (Err (refusal.Input input.NotBuilt)) = IsUnbuilt text
 Made text (Err refusal.Memory) = Unit {0}
 Made text (Err _) = ⊥
 
@@ -56,55 +70,30 @@ Written text out (Ok done) = Took out text
 Written text out (Err refusal.WriteFault) = FailedAt out text
 Written text out (Err _) = ⊥
 
--- C text for what stands under the name
-pub record HasText (file : List ℕ) (store : Change StoreSeen) : Type 0 where
-  pub text : List ℕ
-  pub stands : StandsUnder store.before.holds file text
+-- ---- a command
+
+-- bytes that the command is to write, with what was done to the output
+pub record Wrote (asked : Command) (store : Change StoreSeen) (Done : List ℕ → Type 0) : Type 0 where
+  pub answer : Answer
+  pub comes : Comes (StandsUnder store.before.holds) asked answer
   pub bytes : List ℕ
-  pub compiled : IsCompiled text bytes
-
-pub record IsEmitted (file : List ℕ) (store : Change StoreSeen) (sink : Change SinkSeen) : Type 0 where
-  pub has : HasText file store
-  pub out : Took sink has.bytes
-
-pub record IsCutShort (file : List ℕ) (store : Change StoreSeen) (sink : Change SinkSeen) : Type 0 where
-  pub has : HasText file store
-  pub out : FailedAt sink has.bytes
-
-pub record IsUnread (store : Change StoreSeen) (sink : Change SinkSeen) : Type 0 where
-  pub unread : Unread store
-  pub out : Unchanged sink
-
--- what stands under the name is this
-pub record IsJudged (v : Verdict) (file : List ℕ) (store : Change StoreSeen) (sink : Change SinkSeen) : Type 0 where
-  pub text : List ℕ
-  pub stands : StandsUnder store.before.holds file text
-  pub judged : Judged text v
-  pub out : Unchanged sink
-
-pub record IsLeft (file : List ℕ) (store : Change StoreSeen) (sink : Change SinkSeen) : Type 0 where
-  pub text : List ℕ
-  pub stands : StandsUnder store.before.holds file text
-  pub unbuilt : IsUnbuilt text
-  pub out : Unchanged sink
-
-abbrev pub Emitted : List ℕ → Change StoreSeen → Change SinkSeen → Result (Unit {0}) Refusal → Type 0
-Emitted file store out (Ok done) = IsEmitted file store out
-Emitted file store out (Err refusal.Words) = ⊥
-Emitted file store out (Err refusal.ReadFault) = IsUnread store out
-Emitted file store out (Err refusal.WriteFault) = IsCutShort file store out
-Emitted file store out (Err refusal.Memory) = Unchanged out
-Emitted file store out (Err refusal.TooLarge) = IsJudged TooLong file store out
-Emitted file store out (Err (refusal.Fault f)) = IsJudged (Faulty (fault_line f)) file store out
-Emitted file store out (Err refusal.NotBuilt) = IsLeft file store out
+  pub allowed : Allows answer bytes
+  pub done : Done bytes
 
 abbrev pub Performed : Command → Change StoreSeen → Change SinkSeen → Result (Unit {0}) Refusal → Type 0
-Performed (Emit file) store out result = Emitted file store out result
+Performed asked store out (Ok done) = Wrote asked store (Took out)
+Performed asked store out (Err refusal.WriteFault) = Wrote asked store (FailedAt out)
+Performed asked store out (Err refusal.Words) = ⊥
+Performed asked store out (Err refusal.ReadFault) = Unread store × Unchanged out
+Performed asked store out (Err refusal.Memory) = Unchanged out
+Performed asked store out (Err (refusal.Input fault)) = Comes (StandsUnder store.before.holds) asked (answer_of fault) × Unchanged out
+
+-- ---- a call
 
 -- no command, a command that was done or refused, or want of memory before one was known
 pub data Ran (words : List (List ℕ)) (store : Change StoreSeen) (out : Change SinkSeen) : Result (Unit {0}) Refusal → Type 0 where
   no_command : command words ≡ None → Unchanged store → Unchanged out → Ran words store out (Err refusal.Words)
-  performed : {result : Result (Unit {0}) Refusal} (asked : Command) → command words ≡ Some asked → LoadsAtMostOnce store → Performed asked store out result
+  performed : {result : Result (Unit {0}) Refusal} (asked : Command) → command words ≡ Some asked → LoadsAtMost (files_named (Some asked)) store → Performed asked store out result
       → Ran words store out result
   no_memory : Unchanged store → Unchanged out → Ran words store out (Err refusal.Memory)
 
@@ -117,6 +106,4 @@ Reported refusal.Words s err = Tells usage_line status.Words s err
 Reported refusal.ReadFault s err = Tells read_fault_line status.ReadFault s err
 Reported refusal.WriteFault s err = (s ≡ status.WriteFault) × Unchanged err
 Reported refusal.Memory s err = (s ≡ status.Memory) × (Took err memory_line ⊎ FailedAt err memory_line)
-Reported refusal.TooLarge s err = Tells too_large_line status.TooLarge s err
-Reported (refusal.Fault f) s err = Tells (fault_line f) status.Refused s err
-Reported refusal.NotBuilt s err = Tells not_built_line status.NotBuilt s err
+Reported (refusal.Input fault) s err = Tells (line_of fault) (status_of fault) s err

@@ -1,6 +1,7 @@
 ghost use Rattle.ivoryc.specs.Calls.{change_of, store_seen, sink_seen};
-ghost use Rattle.ivoryc.specs.Promise.{Promise};
-ghost use Rattle.ivoryc.specs.Steps.{LoadsAtMostOnce, Performed, Ran};
+ghost use Rattle.std.specs.Prelude.{Some};
+ghost use Rattle.ivoryc.specs.Promise.{Promise, files_named};
+ghost use Rattle.ivoryc.specs.Steps.{LoadsAtMost, Performed, Ran};
 
 use crate::command::{Command, words_of};
 use crate::emit::emit;
@@ -57,7 +58,7 @@ fn perform<S: Store, K: Sink>(
     store: &mut S,
     out: &mut K,
 ) -> Result<(), Refusal>
-    ensures once { LoadsAtMostOnce (change_of (store_seen S.holds S.loads S.faults) store.old store.new) }
+    ensures once { LoadsAtMost (files_named (Some command.now)) (change_of (store_seen S.holds S.loads S.faults) store.old store.new) }
     ensures performed { Performed command.now (change_of (store_seen S.holds S.loads S.faults) store.old store.new) (change_of (sink_seen K.held K.taken K.faults) out.old out.new) result }
 {
     match command {

@@ -1,10 +1,12 @@
-ghost use Rattle.std.specs.Prelude.{◌≡◌, ◌<◌, ◌^◌};
 ghost use Rattle.c_ast.specs.View.{unit_of};
 ghost use Rattle.c_text.specs.Spelling.{unit_text};
 ghost use Rattle.c_text.specs.Subset.{InSubset};
 ghost use Rattle.ivoryc.specs.Calls.{change_of, store_seen, sink_seen};
-ghost use Rattle.ivoryc.specs.Steps.{LoadsAtMostOnce, Loaded, Made, Written, Emitted};
+ghost use Rattle.ivoryc.specs.Steps.{LoadsAtMost, Made, Performed, Written};
+ghost use Rattle.ivoryc.specs.declared.command.Command.TheVariants.{Emit};
 
+use crate::input_fault::InputFault;
+use crate::load::load;
 use crate::refusal::Refusal;
 use c_ast::{CUnit, Target};
 use c_lower::lower;
@@ -23,23 +25,14 @@ pub fn emit<S: Store, K: Sink>(
     store: &mut S,
     out: &mut K,
 ) -> Result<(), Refusal>
-    ensures once { LoadsAtMostOnce (change_of (store_seen S.holds S.loads S.faults) store.old store.new) }
-    ensures emitted { Emitted file.now (change_of (store_seen S.holds S.loads S.faults) store.old store.new) (change_of (sink_seen K.held K.taken K.faults) out.old out.new) result }
+    ensures once { LoadsAtMost 1 (change_of (store_seen S.holds S.loads S.faults) store.old store.new) }
+    ensures performed { Performed (Emit file.now) (change_of (store_seen S.holds S.loads S.faults) store.old store.new) (change_of (sink_seen K.held K.taken K.faults) out.old out.new) result }
 {
     let text = load(alloc, file, SOURCE_LIMIT, store)?;
     let unit = compile(alloc, text.as_slice())?;
     let written = write(&unit, out);
     give_up_unit(unit);
     written
-}
-
-/// The first bytes under a name, up to one past the limit.
-fn load<S: Store>(alloc: Global, file: &Word, limit: u64, store: &mut S) -> Result<Word, Refusal>
-    requires { limit < 2 ^ 32 }
-    ensures once { LoadsAtMostOnce (change_of (store_seen S.holds S.loads S.faults) store.old store.new) }
-    ensures loaded { Loaded file.now limit (change_of (store_seen S.holds S.loads S.faults) store.old store.new) result }
-{
-    Ok(store.load(alloc, file, limit)?)
 }
 
 /// The C unit of a module text.
@@ -55,7 +48,7 @@ fn compile(alloc: Global, text: &[u8]) -> Result<CUnit, Refusal>
             give_up_module(module);
             Ok(unit)
         }
-        None => Err(Refusal::NotBuilt),
+        None => Err(Refusal::Input(InputFault::NotBuilt)),
     }
 }
 

@@ -9,6 +9,8 @@ ghost use Rattle.ivoryc.specs.Statuses as statuses;
 mod call;
 mod command;
 mod emit;
+mod input_fault;
+mod load;
 mod refusal;
 mod status;
 #[cfg(test)]

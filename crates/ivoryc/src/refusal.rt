@@ -1,12 +1,11 @@
 ghost use Rattle.ivoryc.specs.Calls.{change_of, sink_seen};
-ghost use Rattle.ivoryc.specs.Steps.{Reported, Tells};
-ghost use Rattle.module_text.specs.Lines.{fault_line};
-ghost use Rattle.ivoryc.specs.declared.status.Status.TheVariants.{Refused as refused};
+ghost use Rattle.ivoryc.specs.Steps.{Reported};
 
+use crate::input_fault::{InputFault, tell, tell_input};
 use crate::status::Status;
 use iv_base::{LoadFault, Sink, SinkFault};
 use iv_words::Memory;
-use module_text::{Fault, TextFault};
+use module_text::TextFault;
 
 /// Why a command was not done.
 #[derive(Clone, Copy, Debug, Drop, PartialEq, Eq)]
@@ -19,12 +18,8 @@ pub enum Refusal {
     WriteFault,
     /// Memory is wanting.
     Memory,
-    /// A file is longer than its limit.
-    TooLarge,
-    /// The text has a fault.
-    Fault(Fault),
-    /// The input is not built yet.
-    NotBuilt,
+    /// A file that was loaded is not what the command takes.
+    Input(InputFault),
 }
 
 impl From<Memory> for Refusal {
@@ -60,8 +55,8 @@ impl From<TextFault> for Refusal {
 
     fn from(fault: TextFault) -> Refusal {
         match fault {
-            TextFault::TooLarge => Refusal::TooLarge,
-            TextFault::At(fault) => Refusal::Fault(fault),
+            TextFault::TooLarge => Refusal::Input(InputFault::TooLarge),
+            TextFault::At(fault) => Refusal::Input(InputFault::Module(fault)),
             TextFault::Memory => Refusal::Memory,
         }
     }
@@ -93,32 +88,9 @@ pub fn report<E: Sink>(refusal: Refusal, err: &mut E) -> Status
             let _ = err.put(b"no memory\n");
             Status::Memory
         }
-        Refusal::TooLarge => tell(b"too large\n", Status::TooLarge, err),
-        Refusal::Fault(fault) => tell_fault(fault, err),
-        Refusal::NotBuilt => tell(b"not built yet\n", Status::NotBuilt, err),
+        Refusal::Input(fault) => tell_input(fault, err),
     }
 }
 
 const USAGE: &[u8] =
     b"usage: ivoryc emit FILE | check FILE | sites FILE | run FILE SCRIPT N | crun CFILE SCRIPT N | big K\n";
-
-/// Puts a line, and answers the status, or `WriteFault` where the error output fails.
-fn tell<E: Sink>(line: &[u8], status: Status, err: &mut E) -> Status
-    ensures { Tells line.now status result (change_of (sink_seen E.held E.taken E.faults) err.old err.new) }
-{
-    match err.put(line) {
-        Ok(()) => status,
-        Err(SinkFault) => Status::WriteFault,
-    }
-}
-
-/// Puts the line of a fault, and answers `Refused`, or `WriteFault` where the error output fails.
-fn tell_fault<E: Sink>(fault: Fault, err: &mut E) -> Status
-    ensures { Tells (fault_line fault) refused result (change_of (sink_seen E.held E.taken E.faults) err.old err.new) }
-{
-    if fault.put(err).is_ok() {
-        Status::Refused
-    } else {
-        Status::WriteFault
-    }
-}

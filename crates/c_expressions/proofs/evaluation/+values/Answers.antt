@@ -13,7 +13,7 @@ use Rattle.c_expressions.specs.Programs.{program_of}
 use Rattle.c_expressions.specs.State.{state_of}
 use Rattle.c_expressions.specs.declared.following.Left.TheVariants.{Settled, Open}
 use Rattle.c_operators.proofs.Excuses.{goes_on}
-use Rattle.c_expressions.proofs.Exits.{choice_fails, choice_goes}
+use Rattle.c_expressions.proofs.Choices.{choice_fails, choice_goes}
 use Rattle.c_expressions.proofs.evaluation.+values.Goals as goal
 
 pub eval-returns-in-Read : goal.eval-returns-in-Read

@@ -15,11 +15,11 @@ use Rattle.c_grammar.specs.Symbols.{a_unit}
 use Rattle.c_grammar.specs.UnitRules.{unit_rule}
 use Rattle.c_grammar.specs.Subset.{grammar, parse}
 use Rattle.c_grammar.proofs.Cut.{pieces_joined}
-use Rattle.c_parser.specs.Answers.{most_open, bytes_before, Says, Reads}
-use Rattle.c_parser.specs.Levels.{inner_at, reads_at}
+use Rattle.c_lexemes.specs.Levels.{most_open, inner_at, reads_at}
+use Rattle.c_parser.specs.Answers.{bytes_before, Says, Reads}
 use Rattle.c_parser.specs.declared.answer.UnitFault.{UnitFault}
 use Rattle.c_parser.specs.declared.answer.UnitFault.TheVariants as fault
-use Rattle.c_parser.proofs.Opening.{read_level}
+use Rattle.c_lexemes.proofs.Opening.{read_level}
 use Rattle.c_parser.proofs.Suffixes as suffixes
 use Rattle.c_parser.proofs.Suffixes.{Behind, InnerEnds, rule_ends, below_ends, end_done, end_unexpected, end_too_deep}
 

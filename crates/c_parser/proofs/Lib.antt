@@ -1,11 +1,3 @@
-pub mod Cuts
-pub mod Numbers
-pub mod Leaves
-pub mod Depths
-pub mod Opening
-pub mod Shrinks
-pub mod Turned
-pub mod Forms
 pub mod Staged
 pub mod Added
 pub mod Suffixes

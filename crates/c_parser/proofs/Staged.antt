@@ -10,15 +10,15 @@ use Rattle.c_grammar.specs.Pieces.{Piece, pieces}
 use Rattle.c_grammar.specs.Kinds.{lexicon}
 use Rattle.c_grammar.specs.UnitRules as units
 use Rattle.c_grammar.specs.UnitRules.{rank, at_stage, items, a_struct, an_extern, an_object, a_function, static_item, defined, first_value}
-use Rattle.c_parser.specs.Gives.{Faults}
-use Rattle.c_parser.specs.Levels.{reads_at}
+use Rattle.c_lexemes.specs.Gives.{Faults}
+use Rattle.c_lexemes.specs.Levels.{reads_at}
 use Rattle.c_parser.specs.Views.{item_of}
-use Rattle.c_parser.specs.declared.fault.Fault.{Fault}
-use Rattle.c_parser.specs.declared.fault.Fault.TheVariants as fault
+use Rattle.c_lexemes.specs.declared.fault.Fault.{Fault}
+use Rattle.c_lexemes.specs.declared.fault.Fault.TheVariants as fault
 use Rattle.c_parser.specs.declared.parts.Item.{Item}
-use Rattle.c_parser.proofs.Cuts.{few_pieces}
-use Rattle.c_parser.proofs.Shrinks.{Left, same_stages}
-use Rattle.c_parser.proofs.Turned.{takes}
+use Rattle.c_lexemes.proofs.Cuts.{few_pieces}
+use Rattle.c_lexemes.proofs.Shrinks.{Left, same_stages}
+use Rattle.c_lexemes.proofs.Turned.{takes}
 
 abbrev pub stage_test : ℕ → ℕ → Piece → Bool
 stage_test d s = among lexicon d (first (at_stage s))

@@ -7,11 +7,9 @@ use Rattle.c_ast.specs.declared.unit.CUnit.{CUnit}
 use Rattle.reading.specs.Exact.{Answer, Tree, UnexpectedToken, DeepToken}
 use Rattle.c_grammar.specs.Pieces.{joined, pieces}
 use Rattle.c_grammar.specs.Subset.{parse}
+use Rattle.c_lexemes.specs.Levels.{most_open}
 use Rattle.c_parser.specs.declared.answer.UnitFault.{UnitFault}
 use Rattle.c_parser.specs.declared.answer.UnitFault.TheVariants as fault
-
-abbrev pub most_open : ℕ
-most_open = 300
 
 -- the bytes before the piece with this number
 abbrev pub bytes_before : List ℕ → ℕ → ℕ

@@ -1,9 +1,9 @@
 ghost use Rattle.std.specs.Prelude.{◌≡◌, ◌≤◌, ◌-◌, ◌^◌, length};
 ghost use Rattle.c_parser.specs.Answers.{Reads};
 
-use crate::fault::Fault;
 use crate::unit::unit;
 use c_ast::CUnit;
+use c_lexemes::Fault;
 use std::alloc::Global;
 
 /// Why bytes spell no unit. A place is the number of bytes before the piece at fault.

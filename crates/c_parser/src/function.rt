@@ -9,18 +9,18 @@ ghost use Rattle.c_grammar.specs.Pieces.{pieces};
 ghost use Rattle.c_grammar.specs.Symbols as symbols;
 ghost use Rattle.c_grammar.specs.TypeRules as types;
 ghost use Rattle.c_grammar.specs.UnitRules as rules;
-ghost use Rattle.c_parser.specs.Gives.{Gives, itself};
-ghost use Rattle.c_parser.specs.Levels.{reads_at};
+ghost use Rattle.c_lexemes.specs.Gives.{Gives, itself};
+ghost use Rattle.c_lexemes.specs.Levels.{reads_at};
 ghost use Rattle.c_parser.specs.Views.{defined_of, pointed_of, typed_of};
 
-use crate::fault::Fault;
-use crate::kind::{COMMA, SCALAR, VOID, goes_on, is_next, starts_plain_function};
-use crate::leaf::{blank, close, comma, fixed, mark, name, open, scalar};
 use crate::parts::Defined;
-use crate::stmts::lines;
-use crate::types::{held, held_pointer, pointer_name, scalar_type, tag, typed_name};
-use crate::words::Fixed;
 use c_ast::{CBase, CFunction, CParam, CStmt, CType};
+use c_expression_parser::{held, held_pointer, pointer_name, scalar_type, tag, typed_name};
+use c_lexemes::{
+    COMMA, Fault, Fixed, SCALAR, VOID, blank, close, comma, fixed, goes_on, is_next,
+    is_plain_function, kind, mark, name, open, scalar,
+};
+use c_statement_parser::lines;
 use iv_words::{Seq, Word};
 use std::alloc::Global;
 
@@ -102,7 +102,7 @@ fn params(alloc: Global, depth: u16, bytes: &[u8]) -> Result<(Seq<CParam>, &[u8]
     some_params(alloc, depth, bytes)
 }
 
-#[tactic(auto, using(crate::proofs::Opening::openings))]
+#[tactic(auto, using(c_lexemes::proofs::Opening::openings))]
 fn params_in_parens(
     alloc: Global,
     depth: u16,
@@ -116,7 +116,7 @@ fn params_in_parens(
     Ok((params, rest))
 }
 
-#[tactic(auto, using(crate::proofs::Opening::openings))]
+#[tactic(auto, using(c_lexemes::proofs::Opening::openings))]
 fn body_in_braces(alloc: Global, depth: u16, bytes: &[u8]) -> Result<(Seq<CStmt>, &[u8]), Fault<'_>>
     ensures { Gives stmts_of result (reads_at depth (symbols.braces symbols.a_body) (pieces bytes.now)) }
 {
@@ -267,7 +267,7 @@ pub fn function(
 ) -> Result<(CFunction, &[u8]), Fault<'_>>
     ensures { Gives function_of result (reads_at depth (rules.function hidden) (pieces bytes.now)) }
 {
-    if starts_plain_function(depth, bytes) {
+    if is_plain_function(kind(depth, bytes)) {
         plain_function(alloc, depth, hidden, bytes)
     } else {
         pointer_function(alloc, depth, hidden, bytes)

@@ -9,20 +9,18 @@ ghost use Rattle.c_grammar.specs.Symbols as symbols;
 ghost use Rattle.c_grammar.specs.TypeRules as types;
 ghost use Rattle.c_grammar.specs.ExpressionRules.{initializer};
 ghost use Rattle.c_grammar.specs.UnitRules as rules;
-ghost use Rattle.c_parser.specs.Gives.{Gives};
-ghost use Rattle.c_parser.specs.Levels.{begins_with, reads_at};
+ghost use Rattle.c_lexemes.specs.Gives.{Gives};
+ghost use Rattle.c_lexemes.specs.Levels.{begins_with, reads_at};
 ghost use Rattle.c_parser.specs.Views.{defined_or_value_of, item_of, pointed_of, scalar_behind_of, struct_behind_of, typed_of, valued_of};
 
-use crate::fault::Fault;
 use crate::function::{defined, function, function_with, void_function};
-use crate::inits::initializer;
 use crate::item::line_end;
-use crate::kind::{CONST, OPEN_PAREN, SCALAR, STAR, VOID, is_next};
-use crate::leaf::{blank, fixed, mark, name, scalar};
-use crate::parts::{Defined, Item, Side};
-use crate::types::{scalar_type, star_name, tag};
-use crate::words::Fixed;
+use crate::parts::{Defined, Item};
 use c_ast::{CBase, CInit, CObject, CScalar, CType};
+use c_expression_parser::{Side, initializer, scalar_type, star_name, tag};
+use c_lexemes::{
+    CONST, Fault, Fixed, OPEN_PAREN, SCALAR, STAR, VOID, blank, fixed, is_next, mark, name, scalar,
+};
 use iv_words::Word;
 use std::alloc::Global;
 

@@ -11,18 +11,18 @@ ghost use Rattle.c_grammar.specs.Pieces.{pieces};
 ghost use Rattle.c_grammar.specs.Symbols as symbols;
 ghost use Rattle.c_grammar.specs.TypeRules as types;
 ghost use Rattle.c_grammar.specs.UnitRules as rules;
-ghost use Rattle.c_parser.specs.Gives.{Gives, Passes, itself};
-ghost use Rattle.c_parser.specs.Levels.{reads_at};
+ghost use Rattle.c_lexemes.specs.Gives.{Gives, Passes, itself};
+ghost use Rattle.c_lexemes.specs.Levels.{reads_at};
 ghost use Rattle.c_parser.specs.Views.{item_of, members_or_function_of};
 
-use crate::fault::Fault;
 use crate::function::{function_with, pointer_defined};
-use crate::kind::{COMMA, INDENTATION, OPEN_BRACE, OPEN_SQUARE, VOID, goes_on, is_next};
-use crate::leaf::{blank, close, comma, fixed, indentation, length, mark, name, open, scalar};
-use crate::parts::{Defined, Item, Side};
-use crate::types::{base, tag, value_type};
-use crate::words::Fixed;
+use crate::parts::{Defined, Item};
 use c_ast::{CBase, CExtern, CMember, CStruct, CType};
+use c_expression_parser::{Side, base, tag, value_type};
+use c_lexemes::{
+    COMMA, Fault, Fixed, INDENTATION, OPEN_BRACE, OPEN_SQUARE, VOID, blank, close, comma, fixed,
+    goes_on, indentation, is_next, length, mark, name, open, scalar,
+};
 use iv_words::{Seq, Word};
 use std::alloc::Global;
 
@@ -37,7 +37,7 @@ pub fn line_end(depth: u16, bytes: &[u8]) -> Result<&[u8], Fault<'_>>
 // ---- structs
 
 /// `[N]`.
-#[tactic(auto, using(crate::proofs::Opening::openings))]
+#[tactic(auto, using(c_lexemes::proofs::Opening::openings))]
 fn length_in_squares(depth: u16, bytes: &[u8]) -> Result<(u32, &[u8]), Fault<'_>>
     ensures { Gives itself result (reads_at depth (symbols.squares symbols.a_length) (pieces bytes.now)) }
 {
@@ -131,7 +131,7 @@ fn members(alloc: Global, depth: u16, bytes: &[u8]) -> Result<(Seq<CMember>, &[u
     some_members(alloc, depth, rest)
 }
 
-#[tactic(auto, using(crate::proofs::Opening::openings))]
+#[tactic(auto, using(c_lexemes::proofs::Opening::openings))]
 fn members_in_braces(
     alloc: Global,
     depth: u16,
@@ -250,7 +250,7 @@ fn param_types(alloc: Global, depth: u16, bytes: &[u8]) -> Result<(Seq<CType>, &
     some_types(alloc, depth, bytes)
 }
 
-#[tactic(auto, using(crate::proofs::Opening::openings))]
+#[tactic(auto, using(c_lexemes::proofs::Opening::openings))]
 fn types_in_parens(
     alloc: Global,
     depth: u16,

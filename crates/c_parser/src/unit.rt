@@ -11,21 +11,21 @@ ghost use Rattle.c_grammar.specs.Pieces.{pieces};
 ghost use Rattle.c_grammar.specs.Kinds as kinds;
 ghost use Rattle.c_grammar.specs.Symbols as symbols;
 ghost use Rattle.c_grammar.specs.UnitRules as rules;
-ghost use Rattle.c_parser.specs.Gives.{Gives, Passes};
-ghost use Rattle.c_parser.specs.Levels.{begins_with, reads_at};
+ghost use Rattle.c_lexemes.specs.Gives.{Gives, Passes};
+ghost use Rattle.c_lexemes.specs.Levels.{begins_with, reads_at};
 ghost use Rattle.c_parser.specs.Views.{added, item_of, items_of, stage_number};
-ghost use Rattle.c_parser.specs.Words as words;
-ghost use Rattle.c_parser.specs.declared.words.Fixed.TheVariants as fixed;
+ghost use Rattle.c_lexemes.specs.Words as words;
+ghost use Rattle.c_lexemes.specs.declared.words.Fixed.TheVariants as fixed;
 
-use crate::fault::Fault;
 use crate::function::{function, plain_function};
 use crate::hidden::{hidden_function, static_item};
 use crate::item::{extern_line, line_end, struct_or_function};
-use crate::kind::{EXTERN, SCALAR, STATIC, STRUCT, VOID, is_next, kind};
-use crate::leaf::{blank, close, fixed, mark, open};
 use crate::parts::{Item, Stage};
-use crate::words::Fixed;
 use c_ast::CUnit;
+use c_lexemes::{
+    EXTERN, Fault, Fixed, SCALAR, STATIC, STRUCT, VOID, blank, close, fixed, is_next, kind, mark,
+    open,
+};
 use iv_words::{Memory, Seq};
 use std::alloc::Global;
 
@@ -70,7 +70,7 @@ fn included(depth: u16, name: Fixed, bytes: &[u8]) -> Result<&[u8], Fault<'_>>
     header(depth, name, rest)
 }
 
-#[tactic(auto, using(crate::proofs::Opening::openings))]
+#[tactic(auto, using(c_lexemes::proofs::Opening::openings))]
 fn stop_params(depth: u16, bytes: &[u8]) -> Result<&[u8], Fault<'_>>
     ensures { Passes (piece.Word (words.fixed_text fixed.Uint32)) result (reads_at depth (symbols.parens symbols.stop_params) (pieces bytes.now)) }
 {

@@ -3,7 +3,7 @@ use Rattle.std.proofs.Common.{◌≡◌, ◌∙◌, Err, ap, refl, arith, rules}
 use Rattle.grammars.specs.Grammar.{after}
 use Rattle.c_grammar.specs.UnitRules.{member}
 use Rattle.reading.proofs.Turns.{turns_after}
-use Rattle.c_parser.proofs.Turned.{plain_more, turned_fault}
+use Rattle.c_lexemes.proofs.Turned.{plain_more, turned_fault}
 use Rattle.c_parser.proofs.item.more_members.Goals as goal
 
 pub loop-turn-init : goal.loop-turn-init

@@ -7,8 +7,7 @@ use Rattle.grammars.specs.Reader.{among}
 use Rattle.c_grammar.specs.Pieces.{pieces}
 use Rattle.c_grammar.specs.Kinds.{lexicon}
 use Rattle.c_grammar.specs.UnitRules.{member}
-use Rattle.c_parser.specs.Answers.{most_open}
-use Rattle.c_parser.specs.Levels.{reads_at}
+use Rattle.c_lexemes.specs.Levels.{most_open, reads_at}
 use Rattle.c_parser.proofs.item.more_members.Given as goal
 
 abbrev pub invariant-loop-turn : goal.invariant-loop-turn

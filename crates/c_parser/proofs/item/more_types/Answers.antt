@@ -4,7 +4,7 @@ use Rattle.grammars.specs.Grammar.{after}
 use Rattle.c_grammar.specs.Symbols.{comma}
 use Rattle.c_grammar.specs.TypeRules.{value_type}
 use Rattle.reading.proofs.Turns.{turns_after}
-use Rattle.c_parser.proofs.Turned.{plain_more, turned_fault}
+use Rattle.c_lexemes.proofs.Turned.{plain_more, turned_fault}
 use Rattle.c_parser.proofs.item.more_types.Goals as goal
 
 pub loop-turn-init : goal.loop-turn-init

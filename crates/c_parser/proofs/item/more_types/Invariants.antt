@@ -8,8 +8,7 @@ use Rattle.c_grammar.specs.Pieces.{pieces}
 use Rattle.c_grammar.specs.Kinds.{lexicon}
 use Rattle.c_grammar.specs.Symbols.{comma}
 use Rattle.c_grammar.specs.TypeRules.{value_type}
-use Rattle.c_parser.specs.Answers.{most_open}
-use Rattle.c_parser.specs.Levels.{reads_at}
+use Rattle.c_lexemes.specs.Levels.{most_open, reads_at}
 use Rattle.c_parser.proofs.item.more_types.Given as goal
 
 abbrev pub invariant-loop-turn : goal.invariant-loop-turn

@@ -1,7 +1,7 @@
 use Rattle.std.proofs.Common.{◌-◌}
 use Rattle.c_grammar.specs.Pieces.{pieces}
 use Rattle.c_grammar.specs.UnitRules as rules
-use Rattle.c_parser.specs.Levels.{reads_at}
+use Rattle.c_lexemes.specs.Levels.{reads_at}
 use Rattle.c_parser.specs.Views.{stage_number}
 use Rattle.c_parser.proofs.Staged.{Staged}
 use Rattle.c_parser.proofs.unit.items.Given as goal

@@ -1,0 +1,5 @@
+pub mod Gives
+pub mod Levels
+pub mod Scanned
+pub mod Words
+pub mod Numbers

@@ -20,5 +20,6 @@ module _ (p : Program) (s : CState) (test first second : Expr) where
   pub choice_fails : (trouble : Trouble) → Gives Excused itself (on_ok (eval p test s) is_true) (Err trouble) → Gives Excused value_of (eval p (Cond test first second) s) (Err trouble)
   choice_fails trouble h = passed_on Excused itself value_of (on_ok (eval p test s) is_true) choice trouble h
 
-  pub choice_goes : (holds : Bool) (r : Result Value Trouble) → on_ok (eval p test s) is_true ≡ Ok holds → Gives Excused value_of (choice holds) r → Gives Excused value_of (eval p (Cond test first second) s) r
+  pub choice_goes : (holds : Bool) (r : Result Value Trouble)
+      → on_ok (eval p test s) is_true ≡ Ok holds → Gives Excused value_of (choice holds) r → Gives Excused value_of (eval p (Cond test first second) s) r
   choice_goes holds r e h = goes_on Excused itself value_of (on_ok (eval p test s) is_true) choice holds r e h

@@ -1,5 +1,6 @@
 pub mod Programs
 pub mod State
+pub mod Changes
 pub mod Names
 pub mod Forms
 pub mod Types

@@ -1,7 +1,8 @@
--- What the left operand of an operator leaves, whatever the right one comes to.
+-- Binary operators, operand by operand.
 use Rattle.std.specs.Prelude.{◌≡◌, Result, Ok}
 use Rattle.c_ast.specs.declared.CBinary.{CBinary}
-use Rattle.c_ast.specs.Targets.{TargetTable}
+use Rattle.c_ast.specs.declared.Target.{Target}
+use Rattle.c_ast.specs.Targets.{TargetTable, table_of}
 use Rattle.c_meaning.specs.Operators.{binary}
 use Rattle.c_meaning.specs.Values.{CValue, Trouble, on_ok}
 use Rattle.c_operators.specs.Values.{value_of, Gives}
@@ -9,6 +10,11 @@ use Rattle.c_expressions.specs.Places.{Excused}
 use Rattle.c_expressions.specs.declared.following.Left.{Left}
 use Rattle.c_expressions.specs.declared.following.Left.TheVariants.{Settled, Open}
 
+-- an operator on the value of its left operand, once that of the right one is there
+abbrev pub on_right : Target → CBinary → CValue → CValue → Result CValue Trouble
+on_right t op a v = binary (table_of t) op a (Ok v)
+
+-- what the left operand leaves, whatever the right one comes to
 abbrev pub Leaves : CBinary → Result CValue Trouble → Left → Type 0
 Leaves op said (Settled result) = (t : TargetTable) (b : Result CValue Trouble) → Gives Excused value_of (on_ok said (λ a. binary t op a b)) result
 Leaves op said (Open v) = (t : TargetTable) (b : Result CValue Trouble) → on_ok said (λ a. binary t op a b) ≡ on_ok b (λ u. binary t op (value_of v) (Ok u))

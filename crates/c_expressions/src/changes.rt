@@ -1,12 +1,12 @@
 //! How a state changes: names and objects come and go, functions are entered and left.
 
-ghost use Rattle.std.specs.Prelude.{◌≡◌, ◌++◌, length, OnOk, false};
-ghost use Rattle.c_ast.specs.Structs.{tree};
-ghost use Rattle.c_meaning.specs.Memory.{memory_of};
+ghost use Rattle.std.specs.Prelude.{◌≡◌, OnOk};
 ghost use Rattle.c_meaning.specs.State as meaning;
 ghost use Rattle.c_objects.specs.Shapes.{base_of};
 ghost use Rattle.c_operators.specs.Values.{value_of};
-ghost use Rattle.c_expressions.specs.State.{frame_of, state_of, own_of};
+ghost use Rattle.c_expressions.specs.Changes.{with_blank, with_made, LeavesBlock};
+ghost use Rattle.c_expressions.specs.Programs.{program_of};
+ghost use Rattle.c_expressions.specs.State.{frame_of, state_of};
 
 use crate::program::Program;
 use crate::state::{Local, Slot, State};
@@ -44,7 +44,7 @@ impl<'a> State<'a> {
         name: &'a Word,
         base: Base<'a>,
     ) -> Result<(), Memory>
-        ensures { OnOk result (state_of self.new ≡ meaning.declare_object name.now (base_of base.entry) ((memory_of program.now.target).create (state_of self.old).objects (tree program.now.unit.structs (base_of base.entry))) (state_of self.old)) }
+        ensures { OnOk result (state_of self.new ≡ with_blank (program_of program.now) name.now (base_of base.entry) (state_of self.old)) }
     {
         let slot = Slot::Naming(self.objects.len(), base);
         let made = program.type_of(base);
@@ -61,7 +61,7 @@ impl<'a> State<'a> {
         base: Base<'a>,
         values: &[i128],
     ) -> Result<(), Memory>
-        ensures { OnOk result (state_of self.new ≡ meaning.declare_object name.now (base_of base.entry) ((memory_of program.now.target).initialize (state_of self.old).objects (tree program.now.unit.structs (base_of base.entry)) false values.now) (state_of self.old)) }
+        ensures { OnOk result (state_of self.new ≡ with_made (program_of program.now) name.now (base_of base.entry) values.now (state_of self.old)) }
     {
         let slot = Slot::Naming(self.objects.len(), base);
         let made = program.type_of(base);
@@ -72,7 +72,7 @@ impl<'a> State<'a> {
 
     /// The names and objects that were declared behind so many end.
     pub fn leave(&mut self, names: usize, objects: usize)
-        ensures { (before : meaning.CState) (more : meaning.Frame) → own_of (state_of self.old) ≡ more ++ own_of before → names ≡ length (own_of before) → objects ≡ length before.objects → state_of self.new ≡ meaning.leave before (state_of self.old) }
+        ensures { LeavesBlock names objects (state_of self.old) (state_of self.new) }
     {
         self.own.truncate(names);
         self.objects.leave(objects);

@@ -1,6 +1,6 @@
 //! What a form of an expression or place comes to, from what its parts come to.
 
-ghost use Rattle.std.specs.Prelude.{Result, Ok};
+ghost use Rattle.std.specs.Prelude.{Result};
 ghost use Rattle.c_ast.specs.Targets.{table_of};
 ghost use Rattle.c_meaning.specs.Expressions as meaning;
 ghost use Rattle.c_meaning.specs.Operators as operators;
@@ -8,7 +8,7 @@ ghost use Rattle.c_meaning.specs.Places as places;
 ghost use Rattle.c_meaning.specs.Values as values;
 ghost use Rattle.c_meaning.specs.Values.{on_ok};
 ghost use Rattle.c_operators.specs.Values.{itself, value_of, Gives};
-ghost use Rattle.c_expressions.specs.Operands.{Leaves};
+ghost use Rattle.c_expressions.specs.Operands.{Leaves, on_right};
 ghost use Rattle.c_expressions.specs.Places.{lvalue_of, Excused};
 ghost use Rattle.c_expressions.specs.State.{state_of};
 ghost use Rattle.c_expressions.specs.Types.{value_type};
@@ -95,7 +95,7 @@ pub(crate) fn binary_of<'a>(
     left: Value<'a>,
     right: Result<Value<'a>, Trouble>,
 ) -> Result<Value<'a>, Trouble>
-    ensures { (said : Result values.CValue values.Trouble) → Gives Excused value_of said right.entry → Gives Excused value_of (on_ok said (λ v. operators.binary (table_of t) op (value_of left.entry) (Ok v))) result }
+    ensures { (said : Result values.CValue values.Trouble) → Gives Excused value_of said right.entry → Gives Excused value_of (on_ok said (on_right t op (value_of left.entry))) result }
 {
     match right {
         Ok(v) => binary(t, op, left, v),

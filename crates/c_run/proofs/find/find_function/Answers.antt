@@ -1,0 +1,8 @@
+use Rattle.c_run.proofs.Calls.{called_is}
+use Rattle.c_run.proofs.find.find_function.Goals as goal
+
+pub found_at-requires : goal.found_at-requires
+found_at-requires c = c.in-Some.ensures.within
+
+pub returns-in-Some : goal.returns-in-Some
+returns-in-Some c = called_is c.args.functions.now c.args.name.now c.in-Some.k c.found_at.result.earlier.now c.found_at.result.function.now c.in-Some.ensures c.found_at.ensures.earlier c.found_at.ensures.function

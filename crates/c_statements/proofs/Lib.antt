@@ -1,0 +1,12 @@
+pub mod Splits
+pub mod Collected
+pub mod ReadValues
+pub mod WrittenCells
+pub mod GivenNumbers
+pub mod Stores
+pub mod CellLoops
+pub mod Making
+pub mod WrittenAll
+pub mod ConvertedArguments
+pub mod GivenInits
+pub mod GivenParts

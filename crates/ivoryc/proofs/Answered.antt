@@ -1,13 +1,14 @@
 -- From why a status was answered to which status must be answered: over a store that tells what it holds, the words and the texts leave
 -- one answer where nothing failed, or want of memory.
 use Rattle.std.proofs.Common.{◌≡◌, ℕ, ◌+◌, ◌≤◌, ◌⊎◌, List, Option, Some, None, refl, sym, ◌∙◌, ap, subst, inl, inr}
+use Rattle.iv_base.specs.Stores.{FileMap}
 use Rattle.ivoryc.specs.declared.command.Command.{Command}
 use Rattle.ivoryc.specs.declared.status.Status.{Status}
 use Rattle.ivoryc.specs.declared.status.Status.TheVariants as status
 use Rattle.ivoryc.specs.Commands.{command}
 use Rattle.ivoryc.specs.Calls.{Call, StandsUnder, Unread, Unwritten}
-use Rattle.ivoryc.specs.Answers.{Answer, Compiles, Refuses, Allows, status_of, Comes}
-use Rattle.ivoryc.specs.Promise.{ComesTo, Writes, Due, IsAnswered, IsTold, output_for, files_named, Promise}
+use Rattle.ivoryc.specs.Answers.{Answer, Compiles, Gives, Refuses, Allows, status_of, Comes}
+use Rattle.ivoryc.specs.Promise.{ComesTo, Writes, Due, IsAnswered, IsTold, output_for, files_named, files_due, Promise}
 use Rattle.ivoryc.proofs.Once.{comes_to_once}
 
 -- this status, or want of memory
@@ -47,10 +48,12 @@ refused_where c a s line told p q = inl (ap status_of (one_answer c a (Refuses s
 -- what is written comes of an answer that goes to `out`
 written_where : (a : Answer) (bytes : List ℕ) → Allows a bytes → status.Done ≡ status_of a
 written_where (Compiles text) bytes allowed = refl
+written_where (Gives given) bytes allowed = refl
 written_where (Refuses s line) bytes allowed = absurd allowed
 
 out_where : (c : Call) (a : Answer) (bytes : List ℕ) → Allows a bytes → output_for c a ≡ c.out
 out_where c (Compiles text) bytes allowed = refl
+out_where c (Gives given) bytes allowed = refl
 out_where c (Refuses s line) bytes allowed = absurd allowed
 
 done_where : (c : Call) (a : Answer) (bytes : List ℕ) → IsTold c.store.before → ComesTo c a → Writes c bytes → status.Done ≡ status_of a
@@ -80,14 +83,21 @@ status_where c status.TooLarge a w p told read written = refused_where c a statu
 status_where c status.Script a w p told read written = refused_where c a status.Script w.line told p w.comes_to
 status_where c status.NotBuilt a w p told read written = refused_where c a status.NotBuilt w.line told p w.comes_to
 
-pub promise_from : (c : Call) → IsAnswered c c.status → c.store.after.loads ≤ c.store.before.loads + files_named (command c.words)
-    → c.store.after.holds ≡ c.store.before.holds → c.store.before.faults ≤ c.store.after.faults → Promise c
-promise_from c answer loads holds later =
+-- the loads of a call
+pub record LoadsWell (c : Call) : Type 0 where
+  pub loads : c.store.after.loads ≤ c.store.before.loads + files_named (command c.words)
+  pub due : (files : FileMap) → c.store.before.holds ≡ Some files → c.store.after.loads ≤ c.store.before.loads + files_due files (command c.words)
+  pub holds : c.store.after.holds ≡ c.store.before.holds
+  pub later : c.store.before.faults ≤ c.store.after.faults
+
+pub promise_from : (c : Call) → IsAnswered c c.status → LoadsWell c → Promise c
+promise_from c answer well =
     record {
       answer = answer;
       no_command = λ none written. words_where c c.status answer none written;
       complete = λ a p told read written. status_where c c.status a answer p told read written;
-      loads = loads;
-      holds = holds;
-      later = later;
+      loads = well.loads;
+      loads_due = well.due;
+      holds = well.holds;
+      later = well.later;
     }

@@ -1,3 +1,4 @@
+pub mod StepWords
 pub mod Once
 pub mod Answered
 pub mod Steps

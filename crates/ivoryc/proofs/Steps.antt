@@ -1,5 +1,12 @@
 -- The answers of the steps of a call make up what the call promises.
-use Rattle.std.proofs.Common.{◌≡◌, ℕ, List, Some, None, Result, Ok, Err, refl, sym, ap, subst, inl, inr, arith}
+use Rattle.std.proofs.Common.{◌≡◌, ℕ, ◌+◌, ◌<◌, ◌≤◌, ◌⊎◌, Bool, true, false, nat_lt, if◌then◌else◌, List, length, Some, None, Result, Ok, Err, refl, sym, ap, subst, inl, inr, arith}
+use Rattle.iv_base.specs.Stores.{FileMap, text_of}
+use Rattle.iv_script.specs.Report.{report}
+use Rattle.iv_script.specs.declared.ScriptFault.{ScriptFault}
+use Rattle.c_ast.specs.Exports.{c_exports}
+use Rattle.c_ast.specs.Syntax.{TranslationUnit}
+use Rattle.c_meaning.specs.Runs.{run_c}
+use Rattle.c_reader.specs.Answers.{text_limit}
 use Rattle.c_ast.specs.declared.CUnit.{CUnit}
 use Rattle.c_ast.specs.declared.Target.TheVariants.{T32}
 use Rattle.c_ast.specs.View.{unit_of}
@@ -9,7 +16,8 @@ use Rattle.c_grammar.proofs.Texts.{texts_apart}
 use Rattle.ivory_lexer.specs.Limits.{source_limit}
 use Rattle.module_text.specs.Verdicts.{Judged}
 use Rattle.ivoryc.specs.declared.command.Command.{Command}
-use Rattle.ivoryc.specs.declared.command.Command.TheVariants.{Emit}
+use Rattle.ivoryc.specs.declared.command.Command.TheVariants.{Emit, CRun}
+use Rattle.ivoryc.specs.declared.c_fault.CTextFault.{CTextFault}
 use Rattle.ivoryc.specs.declared.input_fault.InputFault.{InputFault}
 use Rattle.ivoryc.specs.declared.input_fault.InputFault.TheVariants as input
 use Rattle.ivoryc.specs.declared.refusal.Refusal.{Refusal}
@@ -21,10 +29,10 @@ use Rattle.ivoryc.specs.Texts.{usage_line, read_fault_line}
 use Rattle.ivoryc.specs.Causes.{status_of, line_of, answer_of}
 use Rattle.ivoryc.specs.Calls.{StoreSeen, SinkSeen, Change, Call, Unchanged, Took, FailedAt, StandsUnder}
 use Rattle.ivoryc.specs.Headline.{IsCompiled}
-use Rattle.ivoryc.specs.Answers.{Compiles, Comes, compiled, too_long, at_fault, not_built}
-use Rattle.ivoryc.specs.Promise.{ComesTo, IsCommand, Writes, Due, IsAnswered, files_named, Promise}
-use Rattle.ivoryc.specs.Steps.{LoadsAtMost, IsWhole, Loaded, IsUnitOf, Made, Written, Wrote, Performed, Ran, Tells, Reported}
-use Rattle.ivoryc.proofs.Answered.{promise_from}
+use Rattle.ivoryc.specs.Answers.{Compiles, Gives, Given, Comes, compiled, too_long, at_fault, not_built, ran, c_too_long, script_too_long, c_at_fault, script_unread, script_unfit}
+use Rattle.ivoryc.specs.Promise.{ComesTo, IsCommand, Writes, Due, IsAnswered, Promise}
+use Rattle.ivoryc.specs.Steps.{LoadsAtMost, IsWhole, IsTooLong, Loaded, LoadsFor, LoadsBoth, AreWhole, IsScriptTooLong, BothLoaded, IsUnitOf, Made, IsCFault, IsScriptFault, unread, unfit, ScriptFor, IsRun, RanC, Written, Wrote, Performed, Ran, Tells, Reported}
+use Rattle.ivoryc.proofs.Answered.{LoadsWell, promise_from}
 
 -- ---- `emit`
 
@@ -48,6 +56,8 @@ emits_so : (file text : List ℕ) (store : Change StoreSeen) (f : InputFault) �
 emits_so file text store input.TooLarge stands made = too_long stands made
 emits_so file text store (input.Module f) stands made = at_fault stands made
 emits_so file text store input.NotBuilt stands made = not_built stands made
+emits_so file text store (input.CText f) stands made = absurd made
+emits_so file text store (input.Script f) stands made = absurd made
 
 pub emit_unloaded : (file : List ℕ) (store : Change StoreSeen) (out : Change SinkSeen) (r : Refusal) → Loaded file source_limit store (Err r) → Unchanged out
     → Performed (Emit file) store out (Err r)
@@ -58,6 +68,8 @@ emit_unloaded file store out refusal.Memory loaded same = same
 emit_unloaded file store out (refusal.Input input.TooLarge) loaded same = (too_long loaded.stands (Judged.too_long loaded.long), same)
 emit_unloaded file store out (refusal.Input (input.Module f)) loaded same = absurd loaded
 emit_unloaded file store out (refusal.Input input.NotBuilt) loaded same = absurd loaded
+emit_unloaded file store out (refusal.Input (input.CText f)) loaded same = absurd loaded
+emit_unloaded file store out (refusal.Input (input.Script f)) loaded same = absurd loaded
 
 pub emit_unmade : (file text seen : List ℕ) (store : Change StoreSeen) (out : Change SinkSeen) (r : Refusal) → IsWhole file source_limit store text
     → seen ≡ text → Made seen (Err r) → Unchanged out → Performed (Emit file) store out (Err r)
@@ -88,8 +100,106 @@ emit_written file text seen store out u (Ok done) whole same is written = has_te
 emit_written file text seen store out u (Err refusal.Words) whole same is written = absurd written
 emit_written file text seen store out u (Err refusal.ReadFault) whole same is written = absurd written
 emit_written file text seen store out u (Err refusal.WriteFault) whole same is written = has_text file text seen store (FailedAt out) u whole same is written
-emit_written file text seen store out u (Err refusal.Memory) whole same is written = absurd written
+emit_written file text seen store out u (Err refusal.Memory) whole same is written = written
 emit_written file text seen store out u (Err (refusal.Input f)) whole same is written = absurd written
+
+pub emit_loads : (file : List ℕ) (store : Change StoreSeen) → LoadsAtMost 1 store → LoadsFor (Emit file) store
+emit_loads file store most = record { most = most; due = λ files told. most.loads }
+
+-- ---- `crun`
+
+given : (file script text said : List ℕ) (store : Change StoreSeen) → AreWhole file script store (text, said)
+    → Given (StandsUnder store.before.holds) file script text said
+given file script text said store whole =
+    record { text_stands = whole.text_whole.stands; text_short = whole.text_whole.short; script_stands = whole.script_whole.stands; script_short = whole.script_whole.short }
+
+c_faulty : (file script text said : List ℕ) (n : ℕ) (store : Change StoreSeen) (f : CTextFault) → AreWhole file script store (text, said) → IsCFault text f
+    → Comes (StandsUnder store.before.holds) (CRun file script n) (answer_of (input.CText f))
+c_faulty file script text said n store f whole is =
+    let Told : CTextFault → Type 0 = λ g. Comes (StandsUnder store.before.holds) (CRun file script n) (answer_of (input.CText g)) in
+    subst Told (sym is.at) (c_at_fault is.fault (given file script text said store whole) is.is)
+
+unfit_so : (file script text said : List ℕ) (n : ℕ) (store : Change StoreSeen) (f : ScriptFault) (u : TranslationUnit)
+    → AreWhole file script store (text, said) → ReadsBack u text T32 → IsScriptFault (c_exports u) said f
+    → Comes (StandsUnder store.before.holds) (CRun file script n) (answer_of (input.Script f))
+unfit_so file script text said n store f u whole back (unread says) = script_unread (given file script text said store whole) back says
+unfit_so file script text said n store f u whole back (unfit says not) = script_unfit (given file script text said store whole) back says not
+
+runs_of : (file script text said : List ℕ) (n : ℕ) (store : Change StoreSeen) (Done : List ℕ → Type 0) → AreWhole file script store (text, said)
+    → IsRun text said n Done → Wrote (CRun file script n) store Done
+runs_of file script text said n store Done whole run =
+    record {
+      answer = Gives (report (run_c run.unit T32 run.says n));
+      comes = ran (given file script text said store whole) run.back run.script.says run.script.fits;
+      bytes = report (run_c run.unit T32 run.says n);
+      allowed = refl;
+      done = run.done;
+    }
+
+-- a script that does not read, or does not fit, before anything is run
+pub script_refused : (text said : List ℕ) (n : ℕ) (out : Change SinkSeen) (u : TranslationUnit) (r : Refusal) → ReadsBack u text T32
+    → ScriptFor (c_exports u) said (Err r) → Unchanged out → RanC text said n out (Err r)
+script_refused text said n out u refusal.Words back is same = absurd is
+script_refused text said n out u refusal.ReadFault back is same = absurd is
+script_refused text said n out u refusal.WriteFault back is same = absurd is
+script_refused text said n out u refusal.Memory back is same = same
+script_refused text said n out u (refusal.Input input.TooLarge) back is same = absurd is
+script_refused text said n out u (refusal.Input (input.Module f)) back is same = absurd is
+script_refused text said n out u (refusal.Input input.NotBuilt) back is same = absurd is
+script_refused text said n out u (refusal.Input (input.CText f)) back is same = absurd is
+script_refused text said n out u (refusal.Input (input.Script f)) back is same = (record { unit = u; back = back; is = is }, same)
+
+texts_ran : (file script text said : List ℕ) (n : ℕ) (store : Change StoreSeen) (out : Change SinkSeen) (r : Result (Unit {0}) Refusal)
+    → AreWhole file script store (text, said) → RanC text said n out r → Performed (CRun file script n) store out r
+texts_ran file script text said n store out (Ok done) whole run = runs_of file script text said n store (Took out) whole run
+texts_ran file script text said n store out (Err refusal.Words) whole run = absurd run
+texts_ran file script text said n store out (Err refusal.ReadFault) whole run = absurd run
+texts_ran file script text said n store out (Err refusal.WriteFault) whole run = runs_of file script text said n store (FailedAt out) whole run
+texts_ran file script text said n store out (Err refusal.Memory) whole run = run
+texts_ran file script text said n store out (Err (refusal.Input input.TooLarge)) whole run = absurd run
+texts_ran file script text said n store out (Err (refusal.Input (input.Module f))) whole run = absurd run
+texts_ran file script text said n store out (Err (refusal.Input input.NotBuilt)) whole run = absurd run
+texts_ran file script text said n store out (Err (refusal.Input (input.CText f))) whole run = (c_faulty file script text said n store f whole run.0, run.1)
+texts_ran file script text said n store out (Err (refusal.Input (input.Script f))) whole run =
+    (unfit_so file script text said n store f run.0.unit whole run.0.back run.0.is, run.1)
+
+pub crun_ran : (file script text said seen heard : List ℕ) (n : ℕ) (store : Change StoreSeen) (out : Change SinkSeen) (r : Result (Unit {0}) Refusal)
+    → AreWhole file script store (text, said) → seen ≡ text → heard ≡ said → RanC seen heard n out r → Performed (CRun file script n) store out r
+crun_ran file script text said seen heard n store out r whole same alike run =
+    let Over : List ℕ → Type 0 = λ t. RanC t heard n out r in
+    let By : List ℕ → Type 0 = λ t. RanC text t n out r in
+    texts_ran file script text said n store out r whole (subst By alike (subst Over same run))
+
+too_long_so : (file script : List ℕ) (n : ℕ) (store : Change StoreSeen) → IsTooLong file text_limit store ⊎ IsScriptTooLong file script store
+    → Comes (StandsUnder store.before.holds) (CRun file script n) (answer_of input.TooLarge)
+too_long_so file script n store (inl long) = c_too_long long.stands long.long
+too_long_so file script n store (inr long) = script_too_long long.whole.stands long.whole.short long.long.stands long.long.long
+
+pub crun_unloaded : (file script : List ℕ) (n : ℕ) (store : Change StoreSeen) (out : Change SinkSeen) (r : Refusal) → BothLoaded file script store (Err r)
+    → Unchanged out → Performed (CRun file script n) store out (Err r)
+crun_unloaded file script n store out refusal.Words loaded same = absurd loaded
+crun_unloaded file script n store out refusal.ReadFault loaded same = (loaded, same)
+crun_unloaded file script n store out refusal.WriteFault loaded same = absurd loaded
+crun_unloaded file script n store out refusal.Memory loaded same = same
+crun_unloaded file script n store out (refusal.Input input.TooLarge) loaded same = (too_long_so file script n store loaded, same)
+crun_unloaded file script n store out (refusal.Input (input.Module f)) loaded same = absurd loaded
+crun_unloaded file script n store out (refusal.Input input.NotBuilt) loaded same = absurd loaded
+crun_unloaded file script n store out (refusal.Input (input.CText f)) loaded same = absurd loaded
+crun_unloaded file script n store out (refusal.Input (input.Script f)) loaded same = absurd loaded
+
+due_of : (file script : List ℕ) (n : ℕ) (files : FileMap) (x : Bool) → nat_lt text_limit (length (text_of (files file))) ≡ x → (loads before : ℕ)
+    → (text_limit < length (text_of (files file)) → loads ≤ before + 1) → loads ≤ before + 2 → loads ≤ before + (if x then 1 else 2)
+due_of file script n files true is loads before one two = one (grind arith)
+due_of file script n files false is loads before one two = two
+
+pub crun_loads : (file script : List ℕ) (n : ℕ) (store : Change StoreSeen) → LoadsBoth file store → LoadsFor (CRun file script n) store
+crun_loads file script n store both =
+    record {
+      most = both.most;
+      due = λ files told.
+          due_of file script n files (nat_lt text_limit (length (text_of (files file)))) refl store.after.loads store.before.loads
+          (both.due files told) both.most.loads;
+    }
 
 -- ---- from a command's answer to the call's
 
@@ -119,6 +229,8 @@ input_where : (c : Call) (f : InputFault) → ComesTo c (answer_of f) → Unchan
 input_where c input.TooLarge p out err = record { line = _; comes_to = p; out = out; err = err }
 input_where c (input.Module f) p out err = record { line = _; comes_to = p; out = out; err = err }
 input_where c input.NotBuilt p out err = record { line = _; comes_to = p; out = out; err = err }
+input_where c (input.CText f) p out err = record { line = _; comes_to = p; out = out; err = err }
+input_where c (input.Script f) p out err = record { line = _; comes_to = p; out = out; err = err }
 
 writes : (c : Call) (asked : Command) (Done : List ℕ → Type 0) → command c.words ≡ Some asked → (w : Wrote asked c.store Done) → Writes c w.bytes
 writes c asked Done is w = record { answer = w.answer; comes_to = record { asked = asked; is = is; comes = w.comes }; allowed = w.allowed }
@@ -128,10 +240,10 @@ command_answered : (c : Call) (r : Result (Unit {0}) Refusal) (asked : Command) 
 command_answered c (Ok done) asked is w (ends, err) =
     answered c status.Done ends (record { bytes = w.bytes; writes = writes c asked (Took c.out) is w; out = w.done; err = err })
 command_answered c (Err refusal.Words) asked is w ends = absurd w
-command_answered c (Err refusal.ReadFault) asked is (unread, out) ends =
+command_answered c (Err refusal.ReadFault) asked is (failed, out) ends =
     let known : IsCommand c = record { asked = asked; is = is } in
-    told c read_fault_line status.ReadFault (Due.read_fault known unread) out ends
-    (λ took. record { is_command = known; unread = unread; out = out; err = took })
+    told c read_fault_line status.ReadFault (Due.read_fault known failed) out ends
+    (λ took. record { is_command = known; unread = failed; out = out; err = took })
 command_answered c (Err refusal.WriteFault) asked is w (ends, err) =
     answered c status.WriteFault ends (inl (record { bytes = w.bytes; writes = writes c asked (FailedAt c.out) is w; out = w.done; err = err }))
 command_answered c (Err refusal.Memory) asked is out ends = memory_answered c out ends
@@ -140,29 +252,30 @@ command_answered c (Err (refusal.Input f)) asked is (comes, out) ends =
     told c (line_of f) (status_of f) (Due.refused p) out ends (λ took. input_where c f p out took)
 
 -- a store that nothing was asked of
-promise_unasked : (c : Call) → IsAnswered c c.status → Unchanged c.store → Promise c
-promise_unasked c answer same =
+unasked : (c : Call) → Unchanged c.store → LoadsWell c
+unasked c same =
     let loads : c.store.after.loads ≡ c.store.before.loads = ap (λ s. s.loads) same in
     let faults : c.store.after.faults ≡ c.store.before.faults = ap (λ s. s.faults) same in
-    promise_from c answer (omega arith) (ap (λ s. s.holds) same) (omega arith)
+    record { loads = omega arith; due = λ files told. omega arith; holds = ap (λ s. s.holds) same; later = omega arith }
 
 -- a store that was asked for the files of the command
-promise_asked : (c : Call) (asked : Command) → command c.words ≡ Some asked → IsAnswered c c.status → LoadsAtMost (files_named (Some asked)) c.store → Promise c
-promise_asked c asked is answer most = promise_from c answer (rw is most.loads) most.holds most.later
+asked_for : (c : Call) (asked : Command) → command c.words ≡ Some asked → LoadsFor asked c.store → LoadsWell c
+asked_for c asked is for =
+    record { loads = rw is for.most.loads; due = λ files told. rw is (for.due files told); holds = for.most.holds; later = for.most.later }
 
 promised : (c : Call) (r : Result (Unit {0}) Refusal) → Ran c.words c.store c.out r → Ends r c.status c.err → Promise c
-promised c r (Ran.no_command none store out) ends = promise_unasked c (none_answered c none out ends) store
-promised c r (Ran.performed asked is most performed) ends = promise_asked c asked is (command_answered c r asked is performed ends) most
-promised c r (Ran.no_memory store out) ends = promise_unasked c (memory_answered c out ends) store
+promised c r (Ran.no_command none store out) ends = promise_from c (none_answered c none out ends) (unasked c store)
+promised c r (Ran.performed asked is loads performed) ends = promise_from c (command_answered c r asked is performed ends) (asked_for c asked is loads)
+promised c r (Ran.no_memory store out) ends = promise_from c (memory_answered c out ends) (unasked c store)
 
 pub promised_done : (c : Call) (r : Result (Unit {0}) Refusal) (done : Unit {0}) → r ≡ Ok done → Ran c.words c.store c.out r → c.status ≡ status.Done
     → Unchanged c.err → Promise c
-promised_done c r done is ran s err =
+promised_done c r done is run s err =
     let Runs : Result (Unit {0}) Refusal → Type 0 = λ t. Ran c.words c.store c.out t in
-    promised c (Ok done) (subst Runs is ran) (s, err)
+    promised c (Ok done) (subst Runs is run) (s, err)
 
 pub promised_refused : (c : Call) (r : Result (Unit {0}) Refusal) (why : Refusal) → r ≡ Err why → Ran c.words c.store c.out r → Reported why c.status c.err
     → Promise c
-promised_refused c r why is ran reported =
+promised_refused c r why is run reported =
     let Runs : Result (Unit {0}) Refusal → Type 0 = λ t. Ran c.words c.store c.out t in
-    promised c (Err why) (subst Runs is ran) reported
+    promised c (Err why) (subst Runs is run) reported

@@ -1,14 +1,15 @@
 -- What each call of the program promises: why it answered its status, what it wrote, and which statuses it must answer.
-use Rattle.std.specs.Prelude.{◌≡◌, ℕ, ◌+◌, ◌≤◌, ◌⊎◌, List, Option, Some, None}
-use Rattle.iv_base.specs.Stores.{FileMap}
+use Rattle.std.specs.Prelude.{◌≡◌, ℕ, ◌+◌, ◌≤◌, ◌⊎◌, nat_lt, if◌then◌else◌, List, length, Option, Some, None}
+use Rattle.iv_base.specs.Stores.{FileMap, text_of}
+use Rattle.c_reader.specs.Answers.{text_limit}
 use Rattle.ivoryc.specs.declared.command.Command.{Command}
-use Rattle.ivoryc.specs.declared.command.Command.TheVariants.{Emit}
+use Rattle.ivoryc.specs.declared.command.Command.TheVariants.{Emit, CRun}
 use Rattle.ivoryc.specs.declared.status.Status.{Status}
 use Rattle.ivoryc.specs.declared.status.Status.TheVariants as status
 use Rattle.ivoryc.specs.Commands.{command}
 use Rattle.ivoryc.specs.Texts.{usage_line, read_fault_line, memory_line}
 use Rattle.ivoryc.specs.Calls.{StoreSeen, SinkSeen, Change, Call, Unchanged, Unread, Unwritten, Took, FailedAt, StandsUnder}
-use Rattle.ivoryc.specs.Answers.{Answer, Compiles, Refuses, Allows, status_of, Comes}
+use Rattle.ivoryc.specs.Answers.{Answer, Compiles, Gives, Refuses, Allows, status_of, Comes}
 
 -- ---- what the words ask for
 
@@ -103,12 +104,20 @@ pub record IsTold (store : StoreSeen) : Type 0 where
 -- where an answer is written: a line goes to `err`
 abbrev pub output_for : Call → Answer → Change SinkSeen
 output_for c (Compiles text) = c.out
+output_for c (Gives bytes) = c.out
 output_for c (Refuses s line) = c.err
 
 -- the number of the command's words that stand for a file
 abbrev pub files_named : Option Command → ℕ
 files_named None = 0
 files_named (Some (Emit file)) = 1
+files_named (Some (CRun file script n)) = 2
+
+-- how many of them must be loaded before the first refusal: no second file where the first is too long
+abbrev pub files_due : FileMap → Option Command → ℕ
+files_due files None = 0
+files_due files (Some (Emit file)) = 1
+files_due files (Some (CRun file script n)) = if nat_lt text_limit (length (text_of (files file))) then 1 else 2
 
 -- each status comes with its cause; but for a failure of what it needs, and for want of memory, each cause comes with its status
 pub record Promise (c : Call) : Type 0 where
@@ -116,7 +125,9 @@ pub record Promise (c : Call) : Type 0 where
   pub no_command : command c.words ≡ None → ¬ Unwritten c.err → OrMemory c status.Words
   -- whatever the command comes to
   pub complete : (a : Answer) → ComesTo c a → IsTold c.store.before → ¬ Unread c.store → ¬ Unwritten (output_for c a) → OrMemory c (status_of a)
-  -- at most one load for each word that stands for a file; the store still holds what it held
+  -- at most one load for each word that stands for a file, and the store still holds what it held
   pub loads : c.store.after.loads ≤ c.store.before.loads + files_named (command c.words)
+  -- none behind the first refusal
+  pub loads_due : (files : FileMap) → c.store.before.holds ≡ Some files → c.store.after.loads ≤ c.store.before.loads + files_due files (command c.words)
   pub holds : c.store.after.holds ≡ c.store.before.holds
   pub later : c.store.before.faults ≤ c.store.after.faults

@@ -1,13 +1,29 @@
--- What the steps of a call answer to one another: the load, the reading, the compilation, the writing, and the report of a refusal.
+-- What the steps of a call answer to one another: the loads, the reading, the compilation or the run, the writing, and the report of a refusal.
 use Rattle.std.specs.Prelude.{◌≡◌, ℕ, ◌+◌, ◌≤◌, ◌<◌, ◌⊎◌, List, length, Some, None, Result, Ok, Err}
+use Rattle.iv_base.specs.Stores.{FileMap, text_of}
+use Rattle.run_records.specs.Scripts.{Fits}
+use Rattle.run_records.specs.declared.Export.{Export}
+use Rattle.run_records.specs.declared.Script.{Script}
+use Rattle.iv_script.specs.Fit.{fit_of}
+use Rattle.iv_script.specs.Report.{report}
+use Rattle.iv_script.specs.ScriptText.{script_limit, script_of}
+use Rattle.iv_script.specs.declared.ScriptFault.{ScriptFault}
 use Rattle.first_form.specs.declared.FirstModule.{FirstModule}
 use Rattle.c_ast.specs.declared.CUnit.{CUnit}
 use Rattle.c_ast.specs.declared.Target.TheVariants.{T32}
+use Rattle.c_ast.specs.Exports.{c_exports}
+use Rattle.c_ast.specs.Syntax.{TranslationUnit}
 use Rattle.c_ast.specs.View.{unit_of}
+use Rattle.c_text.specs.Faults.{HasFault}
+use Rattle.c_text.specs.ReadsBack.{ReadsBack}
+use Rattle.c_text.specs.declared.CFault.{CFault}
+use Rattle.c_meaning.specs.Runs.{run_c}
+use Rattle.c_reader.specs.Answers.{text_limit}
 use Rattle.c_lower.specs.Compiled.{Compiled}
 use Rattle.module_text.specs.Lines.{fault_line}
 use Rattle.module_text.specs.Verdicts.{TooLong, Faulty, Judged}
 use Rattle.ivoryc.specs.declared.command.Command.{Command}
+use Rattle.ivoryc.specs.declared.c_fault.CTextFault.{CTextFault}
 use Rattle.ivoryc.specs.declared.input_fault.InputFault.TheVariants as input
 use Rattle.ivoryc.specs.declared.refusal.Refusal.{Refusal}
 use Rattle.ivoryc.specs.declared.refusal.Refusal.TheVariants as refusal
@@ -15,11 +31,11 @@ use Rattle.ivoryc.specs.declared.status.Status.{Status}
 use Rattle.ivoryc.specs.declared.status.Status.TheVariants as status
 use Rattle.ivoryc.specs.Commands.{command}
 use Rattle.ivoryc.specs.Texts.{usage_line, read_fault_line, memory_line}
-use Rattle.ivoryc.specs.Causes.{status_of, line_of, answer_of}
+use Rattle.ivoryc.specs.Causes.{placed, status_of, line_of, answer_of}
 use Rattle.ivoryc.specs.Calls.{StoreSeen, SinkSeen, Change, Unchanged, Unread, Took, FailedAt, StandsUnder}
 use Rattle.ivoryc.specs.Headline.{FirstForm, IsUnbuilt}
 use Rattle.ivoryc.specs.Answers.{Answer, Allows, Comes}
-use Rattle.ivoryc.specs.Promise.{files_named}
+use Rattle.ivoryc.specs.Promise.{files_named, files_due}
 
 -- ---- loads
 
@@ -48,6 +64,34 @@ Loaded file most store (Err refusal.Memory) = Unit {0}
 Loaded file most store (Err (refusal.Input input.TooLarge)) = IsTooLong file most store
 Loaded file most store (Err _) = ⊥
 
+-- as many as the command's files, and none behind the first refusal
+pub record LoadsFor (asked : Command) (store : Change StoreSeen) : Type 0 where
+  pub most : LoadsAtMost (files_named (Some asked)) store
+  pub due : (files : FileMap) → store.before.holds ≡ Some files → store.after.loads ≤ store.before.loads + files_due files (Some asked)
+
+-- two loads, of which the second comes only where the first text is within its limit
+pub record LoadsBoth (file : List ℕ) (store : Change StoreSeen) : Type 0 where
+  pub most : LoadsAtMost 2 store
+  pub due : (files : FileMap) → store.before.holds ≡ Some files → text_limit < length (text_of (files file)) → store.after.loads ≤ store.before.loads + 1
+
+-- a C text and the text of a script
+pub record AreWhole (file script : List ℕ) (store : Change StoreSeen) (texts : List ℕ × List ℕ) : Type 0 where
+  pub text_whole : IsWhole file text_limit store texts.0
+  pub script_whole : IsWhole script script_limit store texts.1
+
+-- the second is too long, and the first is not
+pub record IsScriptTooLong (file script : List ℕ) (store : Change StoreSeen) : Type 0 where
+  pub text : List ℕ
+  pub whole : IsWhole file text_limit store text
+  pub long : IsTooLong script script_limit store
+
+abbrev pub BothLoaded : (file script : List ℕ) → Change StoreSeen → Result (List ℕ × List ℕ) Refusal → Type 0
+BothLoaded file script store (Ok texts) = AreWhole file script store texts
+BothLoaded file script store (Err refusal.ReadFault) = Unread store
+BothLoaded file script store (Err refusal.Memory) = Unit {0}
+BothLoaded file script store (Err (refusal.Input input.TooLarge)) = IsTooLong file text_limit store ⊎ IsScriptTooLong file script store
+BothLoaded file script store (Err _) = ⊥
+
 -- ---- compilation
 
 -- a unit for the module that the text stands for
@@ -64,10 +108,65 @@ Made text (Err (refusal.Input input.NotBuilt)) = IsUnbuilt text
 Made text (Err refusal.Memory) = Unit {0}
 Made text (Err _) = ⊥
 
--- the output took the text, or failed at it
+-- ---- runs of C
+
+-- a fault of a C text, at its line and column
+pub record IsCFault (text : List ℕ) (told : CTextFault) : Type 0 where
+  pub fault : CFault
+  pub is : HasFault T32 text fault
+  pub at : told ≡ placed text fault
+
+abbrev pub ReadC : List ℕ → Result CUnit Refusal → Type 0
+ReadC text (Ok u) = ReadsBack (unit_of u) text T32
+ReadC text (Err (refusal.Input (input.CText f))) = IsCFault text f
+ReadC text (Err refusal.Memory) = Unit {0}
+ReadC text (Err _) = ⊥
+
+-- a script that the text says and that fits
+pub record IsScript (exports : List Export) (said : List ℕ) (s : Script) : Type 0 where
+  pub says : script_of said ≡ Ok s
+  pub fits : Fits s exports
+
+-- the text says no script, or one that does not fit
+pub data IsScriptFault (exports : List Export) (said : List ℕ) (fault : ScriptFault) : Type 0 where
+  unread : script_of said ≡ Err fault → IsScriptFault exports said fault
+  unfit : {s : Script} → script_of said ≡ Ok s → fit_of s.calls exports ≡ Err fault → IsScriptFault exports said fault
+
+abbrev pub ScriptFor : List Export → List ℕ → Result Script Refusal → Type 0
+ScriptFor exports said (Ok s) = IsScript exports said s
+ScriptFor exports said (Err (refusal.Input (input.Script f))) = IsScriptFault exports said f
+ScriptFor exports said (Err refusal.Memory) = Unit {0}
+ScriptFor exports said (Err _) = ⊥
+
+-- the report of a run by the script that a text says, with what was done with it
+pub record IsRun (text said : List ℕ) (n : ℕ) (Done : List ℕ → Type 0) : Type 0 where
+  pub unit : TranslationUnit
+  pub back : ReadsBack unit text T32
+  pub says : Script
+  pub script : IsScript (c_exports unit) said says
+  pub done : Done (report (run_c unit T32 says n))
+
+-- a script that the unit cannot be run by
+pub record IsUnfit (text said : List ℕ) (fault : ScriptFault) : Type 0 where
+  pub unit : TranslationUnit
+  pub back : ReadsBack unit text T32
+  pub is : IsScriptFault (c_exports unit) said fault
+
+abbrev pub RanC : (text said : List ℕ) → ℕ → Change SinkSeen → Result (Unit {0}) Refusal → Type 0
+RanC text said n out (Ok done) = IsRun text said n (Took out)
+RanC text said n out (Err refusal.WriteFault) = IsRun text said n (FailedAt out)
+RanC text said n out (Err refusal.Memory) = Unchanged out
+RanC text said n out (Err (refusal.Input (input.CText f))) = IsCFault text f × Unchanged out
+RanC text said n out (Err (refusal.Input (input.Script f))) = IsUnfit text said f × Unchanged out
+RanC text said n out (Err _) = ⊥
+
+-- ---- writing
+
+-- the output took the text, or failed at it; want of memory comes before
 abbrev pub Written : List ℕ → Change SinkSeen → Result (Unit {0}) Refusal → Type 0
 Written text out (Ok done) = Took out text
 Written text out (Err refusal.WriteFault) = FailedAt out text
+Written text out (Err refusal.Memory) = Unchanged out
 Written text out (Err _) = ⊥
 
 -- ---- a command
@@ -93,7 +192,7 @@ Performed asked store out (Err (refusal.Input fault)) = Comes (StandsUnder store
 -- no command, a command that was done or refused, or want of memory before one was known
 pub data Ran (words : List (List ℕ)) (store : Change StoreSeen) (out : Change SinkSeen) : Result (Unit {0}) Refusal → Type 0 where
   no_command : command words ≡ None → Unchanged store → Unchanged out → Ran words store out (Err refusal.Words)
-  performed : {result : Result (Unit {0}) Refusal} (asked : Command) → command words ≡ Some asked → LoadsAtMost (files_named (Some asked)) store → Performed asked store out result
+  performed : {result : Result (Unit {0}) Refusal} (asked : Command) → command words ≡ Some asked → LoadsFor asked store → Performed asked store out result
       → Ran words store out result
   no_memory : Unchanged store → Unchanged out → Ran words store out (Err refusal.Memory)
 

@@ -1,9 +1,10 @@
 ghost use Rattle.ivoryc.specs.Calls.{change_of, store_seen, sink_seen};
-ghost use Rattle.std.specs.Prelude.{Some};
-ghost use Rattle.ivoryc.specs.Promise.{Promise, files_named};
-ghost use Rattle.ivoryc.specs.Steps.{LoadsAtMost, Performed, Ran};
+ghost use Rattle.ivoryc.specs.Commands.{HasFewSteps};
+ghost use Rattle.ivoryc.specs.Promise.{Promise};
+ghost use Rattle.ivoryc.specs.Steps.{LoadsFor, Performed, Ran};
 
 use crate::command::{Command, words_of};
+use crate::crun::crun;
 use crate::emit::emit;
 use crate::refusal::{Refusal, report};
 use crate::status::Status;
@@ -58,10 +59,12 @@ fn perform<S: Store, K: Sink>(
     store: &mut S,
     out: &mut K,
 ) -> Result<(), Refusal>
-    ensures once { LoadsAtMost (files_named (Some command.now)) (change_of (store_seen S.holds S.loads S.faults) store.old store.new) }
+    requires { HasFewSteps command.now }
+    ensures loads { LoadsFor command.now (change_of (store_seen S.holds S.loads S.faults) store.old store.new) }
     ensures performed { Performed command.now (change_of (store_seen S.holds S.loads S.faults) store.old store.new) (change_of (sink_seen K.held K.taken K.faults) out.old out.new) result }
 {
     match command {
         Command::Emit(file) => emit(alloc, file, store, out),
+        Command::CRun(file, script, steps) => crun(alloc, file, script, *steps, store, out),
     }
 }

@@ -2,7 +2,7 @@ ghost use Rattle.c_ast.specs.View.{unit_of};
 ghost use Rattle.c_text.specs.Spelling.{unit_text};
 ghost use Rattle.c_text.specs.Subset.{InSubset};
 ghost use Rattle.ivoryc.specs.Calls.{change_of, store_seen, sink_seen};
-ghost use Rattle.ivoryc.specs.Steps.{LoadsAtMost, Made, Performed, Written};
+ghost use Rattle.ivoryc.specs.Steps.{LoadsFor, Made, Performed, Written};
 ghost use Rattle.ivoryc.specs.declared.command.Command.TheVariants.{Emit};
 
 use crate::input_fault::InputFault;
@@ -25,7 +25,7 @@ pub fn emit<S: Store, K: Sink>(
     store: &mut S,
     out: &mut K,
 ) -> Result<(), Refusal>
-    ensures once { LoadsAtMost 1 (change_of (store_seen S.holds S.loads S.faults) store.old store.new) }
+    ensures loads { LoadsFor (Emit file.now) (change_of (store_seen S.holds S.loads S.faults) store.old store.new) }
     ensures performed { Performed (Emit file.now) (change_of (store_seen S.holds S.loads S.faults) store.old store.new) (change_of (sink_seen K.held K.taken K.faults) out.old out.new) result }
 {
     let text = load(alloc, file, SOURCE_LIMIT, store)?;

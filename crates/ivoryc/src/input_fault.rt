@@ -6,8 +6,11 @@ ghost use Rattle.ivoryc.specs.Steps.{Tells};
 ghost use Rattle.module_text.specs.Lines.{fault_line};
 ghost use Rattle.ivoryc.specs.declared.status.Status.TheVariants.{Refused as refused};
 
+use crate::c_fault::CTextFault;
+use crate::script_fault::script_text;
 use crate::status::Status;
 use iv_base::{Sink, SinkFault};
+use iv_script::ScriptFault;
 use module_text::Fault;
 
 /// What is wrong with a file that was loaded.
@@ -19,6 +22,10 @@ pub enum InputFault {
     Module(Fault),
     /// The module is not of a form that is built yet.
     NotBuilt,
+    /// The C text has a fault.
+    CText(CTextFault),
+    /// The script does not read, or does not fit what is run.
+    Script(ScriptFault),
 }
 
 /// Tells a fault on the error output, and answers its status, or `WriteFault` where the error output fails.
@@ -29,6 +36,8 @@ pub fn tell_input<E: Sink>(fault: InputFault, err: &mut E) -> Status
         InputFault::TooLarge => tell(b"too large\n", Status::TooLarge, err),
         InputFault::Module(fault) => tell_module(fault, err),
         InputFault::NotBuilt => tell(b"not built yet\n", Status::NotBuilt, err),
+        InputFault::CText(fault) => tell(fault.text().as_bytes(), Status::Refused, err),
+        InputFault::Script(fault) => tell(script_text(fault).as_bytes(), Status::Script, err),
     }
 }
 

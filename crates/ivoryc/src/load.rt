@@ -2,13 +2,19 @@
 
 ghost use Rattle.std.specs.Prelude.{◌<◌, ◌^◌};
 ghost use Rattle.ivoryc.specs.Calls.{change_of, store_seen};
-ghost use Rattle.ivoryc.specs.Steps.{LoadsAtMost, Loaded};
+ghost use Rattle.ivoryc.specs.Steps.{LoadsAtMost, Loaded, BothLoaded, LoadsBoth};
 
 use crate::input_fault::InputFault;
 use crate::refusal::Refusal;
 use iv_base::Store;
 use iv_words::Word;
 use std::alloc::Global;
+
+/// The greatest number of bytes of a C text.
+const C_LIMIT: u64 = 268_435_456;
+
+/// The greatest number of bytes of a script.
+const SCRIPT_LIMIT: u64 = 1_048_576;
 
 /// The text under a name, which has at most so many bytes.
 pub fn load<S: Store>(
@@ -27,4 +33,19 @@ pub fn load<S: Store>(
         return Err(Refusal::Input(InputFault::TooLarge));
     }
     Ok(text)
+}
+
+/// A C text and the text of a script.
+pub fn load_both<S: Store>(
+    alloc: Global,
+    file: &Word,
+    script: &Word,
+    store: &mut S,
+) -> Result<(Word, Word), Refusal>
+    ensures loads { LoadsBoth file.now (change_of (store_seen S.holds S.loads S.faults) store.old store.new) }
+    ensures loaded { BothLoaded file.now script.now (change_of (store_seen S.holds S.loads S.faults) store.old store.new) result }
+{
+    let text = load(alloc, file, C_LIMIT, store)?;
+    let said = load(alloc, script, SCRIPT_LIMIT, store)?;
+    Ok((text, said))
 }

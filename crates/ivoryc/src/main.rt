@@ -6,12 +6,15 @@ ghost use Rattle.std.specs.IoError.{error_kind};
 ghost use Rattle.std.specs.declared.io.ErrorKind.TheVariants.{OutOfMemory};
 ghost use Rattle.ivoryc.specs.Statuses as statuses;
 
+mod c_fault;
 mod call;
 mod command;
+mod crun;
 mod emit;
 mod input_fault;
 mod load;
 mod refusal;
+mod script_fault;
 mod status;
 #[cfg(test)]
 mod tests;

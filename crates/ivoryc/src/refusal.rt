@@ -4,6 +4,7 @@ ghost use Rattle.ivoryc.specs.Steps.{Reported};
 use crate::input_fault::{InputFault, tell, tell_input};
 use crate::status::Status;
 use iv_base::{LoadFault, Sink, SinkFault};
+use iv_script::ScriptError;
 use iv_words::Memory;
 use module_text::TextFault;
 
@@ -58,6 +59,20 @@ impl From<TextFault> for Refusal {
             TextFault::TooLarge => Refusal::Input(InputFault::TooLarge),
             TextFault::At(fault) => Refusal::Input(InputFault::Module(fault)),
             TextFault::Memory => Refusal::Memory,
+        }
+    }
+}
+
+impl From<ScriptError> for Refusal {
+    ghost use Rattle.std.specs.Prelude.{◌≡◌};
+    ghost use Rattle.ivoryc.specs.Causes.{refusal_of_script};
+
+    ghost from_gives = { λ error r. r ≡ refusal_of_script error };
+
+    fn from(error: ScriptError) -> Refusal {
+        match error {
+            ScriptError::At(fault) => Refusal::Input(InputFault::Script(fault)),
+            ScriptError::Memory => Refusal::Memory,
         }
     }
 }

@@ -18,7 +18,7 @@ pub enum Status {
     Memory,
     /// 6: a file is longer than its limit.
     TooLarge,
-    /// 7: the script does not read or does not fit. No command answers it yet.
+    /// 7: the script does not read or does not fit.
     Script,
     /// 8: the input is not built yet.
     NotBuilt,

@@ -1,0 +1,110 @@
+//! Runs of C texts.
+
+ghost use Rattle.std.specs.Prelude.{◌≤◌, length};
+ghost use Rattle.run_records.specs.Scripts.{Fits};
+ghost use Rattle.iv_script.specs.Report.{report};
+ghost use Rattle.iv_script.specs.ScriptText.{script_limit};
+ghost use Rattle.c_ast.specs.Exports.{c_exports};
+ghost use Rattle.c_ast.specs.View.{unit_of};
+ghost use Rattle.c_ast.specs.declared.Target.TheVariants.{T32 as t32};
+ghost use Rattle.c_meaning.specs.Runs.{run_c};
+ghost use Rattle.c_reader.specs.Answers.{text_limit};
+ghost use Rattle.ivoryc.specs.Calls.{change_of, store_seen, sink_seen};
+ghost use Rattle.ivoryc.specs.Commands.{most_steps};
+ghost use Rattle.ivoryc.specs.Steps.{LoadsFor, Performed, RanC, ReadC, ScriptFor, Written};
+ghost use Rattle.ivoryc.specs.declared.command.Command.TheVariants.{CRun};
+
+use crate::c_fault::CTextFault;
+use crate::input_fault::InputFault;
+use crate::load::load_both;
+use crate::refusal::Refusal;
+use c_ast::{CUnit, Target, c_exports};
+use c_reader::{ReadFault, read_unit};
+use c_run::{RunError, prepare_c};
+use iv_base::{Sink, Store};
+use iv_script::{Script, fit_script, read_script};
+use iv_words::Word;
+use std::alloc::Global;
+
+/// Writes the report of a run of the C text in a file, by the script in another, within so many steps.
+pub fn crun<S: Store, K: Sink>(
+    alloc: Global,
+    file: &Word,
+    script: &Word,
+    steps: u64,
+    store: &mut S,
+    out: &mut K,
+) -> Result<(), Refusal>
+    requires { steps ≤ most_steps }
+    ensures loads { LoadsFor (CRun file.now script.now steps) (change_of (store_seen S.holds S.loads S.faults) store.old store.new) }
+    ensures performed { Performed (CRun file.now script.now steps) (change_of (store_seen S.holds S.loads S.faults) store.old store.new) (change_of (sink_seen K.held K.taken K.faults) out.old out.new) result }
+{
+    let (text, said) = load_both(alloc, file, script, store)?;
+    run_texts(alloc, text.as_slice(), said.as_slice(), steps, out)
+}
+
+/// Writes the report of a run of a C text by a script.
+fn run_texts<K: Sink>(
+    alloc: Global,
+    text: &[u8],
+    said: &[u8],
+    steps: u64,
+    out: &mut K,
+) -> Result<(), Refusal>
+    requires text { length text.now ≤ text_limit }
+    requires script { length said.now ≤ script_limit }
+    requires steps { steps ≤ most_steps }
+    ensures { RanC text.now said.now steps (change_of (sink_seen K.held K.taken K.faults) out.old out.new) result }
+{
+    let unit = read_c(alloc, text)?;
+    let script = script_for(alloc, &unit, said)?;
+    run_unit(alloc, unit, &script, steps, out)
+}
+
+/// The unit of a C text.
+fn read_c(alloc: Global, text: &[u8]) -> Result<CUnit, Refusal>
+    requires { length text.now ≤ text_limit }
+    ensures { ReadC text.now result }
+{
+    match read_unit(alloc, text, Target::T32) {
+        Ok(unit) => Ok(unit),
+        Err(ReadFault::At(fault)) => {
+            let fault = CTextFault::at(text, fault);
+            Err(Refusal::Input(InputFault::CText(fault)))
+        }
+        Err(ReadFault::Memory) => Err(Refusal::Memory),
+    }
+}
+
+/// The script that a text says, where it fits a unit.
+fn script_for(alloc: Global, unit: &CUnit, said: &[u8]) -> Result<Script, Refusal>
+    requires { length said.now ≤ script_limit }
+    ensures { ScriptFor (c_exports (unit_of unit.now)) said.now result }
+{
+    let script = read_script(alloc, said)?;
+    let exports = c_exports(alloc, unit)?;
+    match fit_script(&script, &exports) {
+        Ok(()) => Ok(script),
+        Err(fault) => Err(Refusal::Input(InputFault::Script(fault))),
+    }
+}
+
+/// Writes the report of a run of a unit by a script that fits it.
+fn run_unit<K: Sink>(
+    alloc: Global,
+    unit: CUnit,
+    script: &Script,
+    steps: u64,
+    out: &mut K,
+) -> Result<(), Refusal>
+    requires fits { Fits script.now (c_exports (unit_of unit)) }
+    requires steps { steps ≤ most_steps }
+    ensures { Written (report (run_c (unit_of unit) t32 script.now steps)) (change_of (sink_seen K.held K.taken K.faults) out.old out.new) result }
+{
+    let mut ready = prepare_c(alloc, unit, Target::T32)?;
+    match ready.run(alloc, script, steps, out) {
+        Ok(_end) => Ok(()),
+        Err(RunError::SinkFault) => Err(Refusal::WriteFault),
+        Err(RunError::Memory) => Err(Refusal::Memory),
+    }
+}

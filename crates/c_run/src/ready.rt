@@ -12,6 +12,7 @@ ghost use Rattle.c_expressions.specs.Programs.{program_of};
 ghost use Rattle.c_expressions.specs.State.{state_of};
 ghost use Rattle.c_run.specs.Reports.{HasSinkCause};
 ghost use Rattle.c_run.specs.declared.ready.RunError.TheVariants.{Memory as memory};
+ghost use Rattle.c_run.specs.declared.ready.RunError.TheVariants.{Memory as memory};
 
 use crate::areas::areas_of;
 use crate::entries::run_calls;
@@ -158,6 +159,8 @@ impl CReady {
         ensures end { IfOk result (λ end. end ≡ (run_c (unit_of self.old.unit) self.old.target script.now n).end) }
         ensures held { OnOk result (K.held out.new ≡ grown (K.held out.old) (report (run_c (unit_of self.old.unit) self.old.target script.now n))) }
         ensures taken { OnOk result (K.taken out.new ≡ capped (K.taken out.old + length (report (run_c (unit_of self.old.unit) self.old.target script.now n)))) }
+        ensures taken { OnOk result (K.taken out.new ≡ capped (K.taken out.old + length (report (run_c (unit_of self.old.unit) self.old.target script.now n)))) }
+        ensures before { result ≡ Err memory → out.new ≡ out.old }
         ensures part { OnErr result (GrewByPrefix (K.held out.old) (K.held out.new) (report (run_c (unit_of self.old.unit) self.old.target script.now n))) }
         ensures cause { HasSinkCause (K.faults out.old) (K.faults out.new) result }
         ensures before { result ≡ Err memory → out.new ≡ out.old }

@@ -24,7 +24,7 @@ use Rattle.first_meaning.specs.Source as source
 use Rattle.first_meaning.proofs.Source.{runs_defined}
 use Rattle.c_ast.specs.declared.CStruct.{CStruct}
 use Rattle.c_ast.specs.declared.Target.{Target}
-use Rattle.c_ast.specs.declared.Target.TheVariants.{T32}
+use Rattle.c_ast.specs.declared.Target.{Target}
 use Rattle.c_ast.specs.declared.CScalar.TheVariants.{Int}
 use Rattle.c_ast.specs.declared.CType.TheVariants.{Void, Value}
 use Rattle.c_ast.specs.Names.{prefixed}
@@ -79,9 +79,9 @@ fell_still Falls s (Returned u) t t' fell = absurd fell
 fell_still Broke s b t t' fell = absurd fell
 fell_still (Returned v) s b t t' fell = absurd fell
 
-module _ (m : FirstModule) (valid : Valid m) where
+module _ (m : FirstModule) (valid : Valid m) (machine : Target) where
   abbrev program : Program
-  program = program_of (lowered m) T32
+  program = program_of (lowered m) machine
 
   abbrev NameDiffers : List ℕ → List ℕ → Type 0
   NameDiffers a b = a ≢ b
@@ -102,15 +102,15 @@ module _ (m : FirstModule) (valid : Valid m) where
     abbrev given_bytes : List CValue
     given_bytes = map byte_value c.values
 
-    arguments : as_arguments T32 (extern_for target).params (map int_value c.values) ≡ Ok given_bytes
-    arguments = ap (λ k. as_arguments T32 (replicate k (Value (Int U8))) (map int_value c.values)) (sym fits.counted) ∙ arguments_are c.values fits.small
+    arguments : as_arguments machine (extern_for target).params (map int_value c.values) ≡ Ok given_bytes
+    arguments = ap (λ k. as_arguments machine (replicate k (Value (Int U8))) (map int_value c.values)) (sym fits.counted) ∙ arguments_are machine c.values fits.small
 
     outside_is : (j : ℕ) (w : World) (t : CState) → outside program (extern_for target) given_bytes j w t ≡ reached j w t
     outside_is j w t =
-        ap (λ r. given program r (outside_with program (extern_for target) given_bytes) j w t) (pieces_are T32 [] t.objects c.values)
+        ap (λ r. given program r (outside_with program (extern_for target) given_bytes) j w t) (pieces_are machine [] t.objects c.values)
         ∙ ap (λ shape. after (import_call (seen program) target.name (source.pieces c.values) shape j w t) (λ reply. reply_written program given_bytes (Nothing, reply))) (nothing_shaped [] c.values)
         ∙ after_same (import_call (seen program) target.name (source.pieces c.values) [] j w t) (λ reply. reply_written program given_bytes (Nothing, reply)) (λ reply. give Nothing)
-        (λ reply i v s. ap (λ r. given program r (λ objects. change Nothing (λ x. record x { objects = objects })) i v s) (nothing_written T32 [] s.objects c.values reply))
+        (λ reply i v s. ap (λ r. given program r (λ objects. change Nothing (λ x. record x { objects = objects })) i v s) (nothing_written machine [] s.objects c.values reply))
 
     call_is : (j : ℕ) (w : World) (t : CState) → call program functions (prefixed target.name) (map int_value c.values) j w t ≡ reached j w t
     call_is j w t =
@@ -121,7 +121,7 @@ module _ (m : FirstModule) (valid : Valid m) where
     exec_is : (j : ℕ) (w : World) (t : CState) → exec program functions (call_for m.imports c) j w t ≡ tick (bind reached (λ result. give Falls)) j w t
     exec_is j w t =
         ap (λ name. after (given program (eval_all program (map constant_for c.values) t) (λ values. tick (call program functions (prefixed name) values)) j w t) (λ result. give Falls)) (ap name_of fits.found)
-        ∙ ap (λ r. after (given program r (λ values. tick (call program functions (prefixed target.name) values)) j w t) (λ result. give Falls)) (constants_are (lowered m) t c.values fits.small)
+        ∙ ap (λ r. after (given program r (λ values. tick (call program functions (prefixed target.name) values)) j w t) (λ result. give Falls)) (constants_are (lowered m) machine t c.values fits.small)
         ∙ ap (λ r. after r (λ result. give Falls)) (ticks_same 1 (call program functions (prefixed target.name) (map int_value c.values)) reached call_is j w t)
         ∙ tick_then reached (λ result. give Falls) j w t
 
@@ -230,6 +230,6 @@ module _ (m : FirstModule) (valid : Valid m) where
   bodies_follow : BodiesFollow none_excused Alike (source.exports_of m) (source.enter m) (entry program)
   bodies_follow entry_call fits n w s t alike = entry_follows entry_call.name entry_call.values n w s t m.procs valid.calls (no_functions program) fits
 
-  pub lowered_refines : Refines m (lowered m) T32
+  pub lowered_refines : Refines m (lowered m) machine
   lowered_refines script fits =
       run_refines none_excused source.observed (seen program) Alike (λ s t alike. refl) (source.exports_of m) (source.enter m) (entry program) (entry_lawful program) bodies_follow tt at_rest tt script fits (runs_defined m valid script fits) (none_fails (source.run_src m script))

@@ -1,10 +1,10 @@
--- The values of expressions have the types of their expressions, and their numbers are numbers of these types; and typed expressions of
--- numbers are not stuck.
+-- The values of expressions have the types of their expressions, and their numbers are numbers of these types; and typed expressions are
+-- not stuck where what is read is held.
 use Rattle.std.proofs.Common.{◌≡◌, ℕ, suc, ℤ, pos, Bool, true, false, not, IsTrue, List, [], ◌∷◌, Option, Some, None, Result, Ok, Err, IfOk, refl, sym, ap, subst, ◌∙◌}
 use Rattle.std.specs.Prelude.{⊤, All, map, ◌++◌, if◌then◌else◌}
 use Rattle.std.specs.Option.{option_map, option_and_then}
 use Rattle.std.specs.Ordering.{int_eq}
-use Rattle.std.proofs.lemmas.List.Elements.{All-head, All-tail, All-nil, All-cons}
+use Rattle.std.proofs.lemmas.List.Elements.{All-head, All-tail}
 use Rattle.iv_words.specs.Words.{same_word}
 use Rattle.iv_words.specs.Kinds.{width, is_signed}
 use Rattle.c_ast.specs.declared.Target.{Target}
@@ -27,14 +27,14 @@ use Rattle.c_ast.specs.Conversions.{convert_in, can_hold, candidates, first_of_t
 use Rattle.c_ast.proofs.Conversions.{converted_held}
 use Rattle.c_ast.proofs.Promotions.{targets_are_sound}
 use Rattle.c_meaning.specs.Values.{Trouble, Undefined, Stuck, Address as Pointing, CValue, Num, Ptr, held_type, is_true, on_ok, typed, as_kind, as_assigned, of_type}
-use Rattle.c_meaning.specs.Memory.{answered, unless_refused}
+use Rattle.c_meaning.specs.Memory.{CObjects, memory_of, answered, unless_refused}
 use Rattle.c_meaning.specs.Places.{Lvalue, Known, Located, object_of, file_place, or_outer, pointee, part_at, member_of, element_of, of_scalar, read, address_of, pointer_cast, cast}
 use Rattle.c_meaning.specs.Operators.{unary, binary}
 use Rattle.c_meaning.specs.State.{Program, Slot, Holding, Naming, CState}
 use Rattle.c_ast.specs.Names.{named}
 use Rattle.c_meaning.specs.Scopes.{slot_entity, local_entity, file_entity}
 use Rattle.c_meaning.specs.Expressions.{static_type, static_place_type, as_common, eval, eval_place}
-use Rattle.c_meaning.specs.ExpressionLaws.{IsTyped, place_type_of, IsTypedPlace, HasItsPlaceType, PlacesHaveTheirTypes, SlotIsTyped, NamesAreTyped, HasItsType, ValuesHaveTheirTypes, IsOfNumbers, HoldsValue, HasNoObjects, TypedNumbersAreNotStuck}
+use Rattle.c_meaning.specs.ExpressionLaws.{IsTyped, place_type_of, IsTypedPlace, HasItsPlaceType, PlacesHaveTheirTypes, SlotIsTyped, NamesAreTyped, HasItsType, ValuesHaveTheirTypes, ReadsAreHeld, TypedExpressionsAreNotStuck}
 use Rattle.c_meaning.proofs.Operands.{Fine, Comes, some_is, fine_comes, on_ok_comes, unary_comes, binary_comes}
 
 -- ---- conversions
@@ -150,18 +150,9 @@ module _ (t : Target) (excuse : Type 0) where
 
 -- ---- what places come to
 
-abbrev IsPart : Lvalue → Type 0
-IsPart (Known v) = ⊥
-IsPart (Located constant to a) = ⊤
-
--- a place of what is said of it, where only an excuse lets it be a part of an object
-record IsPlace (t : TargetTable) (excuse : Type 0) (said : Option PlaceType) (l : Lvalue) : Type 0 where
-  typed : IsTypedPlace t l
-  agrees : (type : PlaceType) → said ≡ Some type → place_type_of l ≡ type
-  excused : IsPart l → excuse
-
-abbrev PlaceComes : TargetTable → (excuse : Type 0) → Option PlaceType → Result Lvalue Trouble → Type 0
-PlaceComes t excuse said (Ok l) = IsPlace t excuse said l
+-- a place of what is said of it, or a reason; stuck only where no type is said, or with an excuse
+abbrev pub PlaceComes : TargetTable → (excuse : Type 0) → Option PlaceType → Result Lvalue Trouble → Type 0
+PlaceComes t excuse said (Ok l) = HasItsPlaceType t said l
 PlaceComes t excuse said (Err (Undefined reason)) = ⊤
 PlaceComes t excuse said (Err Stuck) = (type : PlaceType) → said ≡ Some type → excuse
 
@@ -172,12 +163,12 @@ module _ (t : TargetTable) (excuse : Type 0) where
   value_said f said own (Err Stuck) agrees h = λ type is. h type (through f said own agrees type is)
 
   place_said : {A : Type 0} (f : A → Option PlaceType) (said : Option A) (own : A) (r : Result Lvalue Trouble) → ((q : A) → said ≡ Some q → own ≡ q) → PlaceComes t excuse (f own) r → PlaceComes t excuse (option_and_then f said) r
-  place_said f said own (Ok l) agrees h = record { typed = h.typed; agrees = λ type is. h.agrees type (through f said own agrees type is); excused = h.excused }
+  place_said f said own (Ok l) agrees h = record { typed = h.typed; agrees = λ type is. h.agrees type (through f said own agrees type is) }
   place_said f said own (Err (Undefined reason)) agrees h = tt
   place_said f said own (Err Stuck) agrees h = λ type is. h type (through f said own agrees type is)
 
   of_place : (f : PlaceType → Option ValueType) (said : Option PlaceType) (r : Result Lvalue Trouble) (next : Lvalue → Result CValue Trouble) → PlaceComes t excuse said r
-      → ((l : Lvalue) → IsPlace t excuse said l → Comes t excuse (f (place_type_of l)) (next l)) → Comes t excuse (option_and_then f said) (on_ok r next)
+      → ((l : Lvalue) → HasItsPlaceType t said l → Comes t excuse (f (place_type_of l)) (next l)) → Comes t excuse (option_and_then f said) (on_ok r next)
   of_place f said (Ok l) next h g = value_said f said (place_type_of l) (next l) h.agrees (g l h)
   of_place f said (Err (Undefined reason)) next h g = tt
   of_place f said (Err Stuck) next h g = excused excuse f said h
@@ -206,32 +197,35 @@ module _ (t : TargetTable) (excuse : Type 0) (structs : List CStruct) (x : Name)
   abbrev name_type : Option Entity → Option PlaceType
   name_type found = option_map (of_entity structs) found
 
-  file_by : (o : ℕ) (f : FileObject) (later : Result Lvalue Trouble) (entity : Option Entity) → (((e : Entity) → entity ≡ Some e → excuse) → PlaceComes t excuse (name_type entity) later) → (test : Bool)
-      → ((e : Entity) → (if test then Some (ObjectName f.constant f.base) else entity) ≡ Some e → excuse)
+  file_by : (o : ℕ) (f : FileObject) (later : Result Lvalue Trouble) (entity : Option Entity) → PlaceComes t excuse (name_type entity) later → (test : Bool)
       → PlaceComes t excuse (name_type (if test then Some (ObjectName f.constant f.base) else entity)) (if test then Ok (object_of structs f.constant o f.base) else later)
-  file_by o f later entity k true others = record { typed = tt; agrees = λ type is. some_is is; excused = λ z. others (ObjectName f.constant f.base) refl }
-  file_by o f later entity k false others = k others
+  file_by o f later entity k true = record { typed = tt; agrees = λ type is. some_is is }
+  file_by o f later entity k false = k
 
-  file_comes : (objects : List FileObject) (o : ℕ) → ((e : Entity) → declared (map file_entity objects) x ≡ Some e → excuse) → PlaceComes t excuse (name_type (declared (map file_entity objects) x)) (file_place structs o objects x)
-  file_comes [] o others = λ type is. cc
-  file_comes (f ∷ fs) o others = file_by o f (file_place structs (suc o) fs x) (declared (map file_entity fs) x) (file_comes fs (suc o)) (same_word f.name x) others
+  file_comes : (objects : List FileObject) (o : ℕ) → PlaceComes t excuse (name_type (declared (map file_entity objects) x)) (file_place structs o objects x)
+  file_comes [] o = λ type is. cc
+  file_comes (f ∷ fs) o = file_by o f (file_place structs (suc o) fs x) (declared (map file_entity fs) x) (file_comes fs (suc o)) (same_word f.name x)
 
-  name_by : (slot : Slot) (found : Option Slot) (outer : Result Lvalue Trouble) (entity : Option Entity) → SlotIsTyped t slot → HoldsValue excuse slot → PlaceComes t excuse (name_type entity) (or_outer structs found outer) → (test : Bool)
+  name_by : (slot : Slot) (found : Option Slot) (outer : Result Lvalue Trouble) (entity : Option Entity) → SlotIsTyped t slot → PlaceComes t excuse (name_type entity) (or_outer structs found outer) → (test : Bool)
       → PlaceComes t excuse (name_type (if test then Some (slot_entity slot) else entity)) (or_outer structs (if test then Some slot else found) outer)
-  name_by (Holding v) found outer entity h g k true = record { typed = h; agrees = λ type is. some_is is; excused = λ z. absurd z }
-  name_by (Naming o b) found outer entity h g k true = record { typed = tt; agrees = λ type is. some_is is; excused = λ z. g }
-  name_by slot found outer entity h g k false = k
+  name_by (Holding v) found outer entity h k true = record { typed = h; agrees = λ type is. some_is is }
+  name_by (Naming o b) found outer entity h k true = record { typed = tt; agrees = λ type is. some_is is }
+  name_by slot found outer entity h k false = k
 
-  name_comes : (rest : List (Name × Entity)) (outer : Result Lvalue Trouble) → PlaceComes t excuse (name_type (declared rest x)) outer → (names : List (Name × Slot)) → All (λ n. SlotIsTyped t n.1) names → All (λ n. HoldsValue excuse n.1) names
+  name_comes : (rest : List (Name × Entity)) (outer : Result Lvalue Trouble) → PlaceComes t excuse (name_type (declared rest x)) outer → (names : List (Name × Slot)) → All (λ n. SlotIsTyped t n.1) names
       → PlaceComes t excuse (name_type (declared (map local_entity names ++ rest) x)) (or_outer structs (named names x) outer)
-  name_comes rest outer k [] h g = k
-  name_comes rest outer k (n ∷ names) h g =
-      name_by n.1 (named names x) outer (declared (map local_entity names ++ rest) x) (All-head (λ m. SlotIsTyped t m.1) n names h) (All-head (λ m. HoldsValue excuse m.1) n names g)
-      (name_comes rest outer k names (All-tail (λ m. SlotIsTyped t m.1) n names h) (All-tail (λ m. HoldsValue excuse m.1) n names g)) (same_word n.0 x)
+  name_comes rest outer k [] h = k
+  name_comes rest outer k (n ∷ names) h =
+      name_by n.1 (named names x) outer (declared (map local_entity names ++ rest) x) (All-head (λ m. SlotIsTyped t m.1) n names h)
+      (name_comes rest outer k names (All-tail (λ m. SlotIsTyped t m.1) n names h)) (same_word n.0 x)
 
 -- ---- places and pointers
 
-module _ (p : Program) (s : CState) (excuse : Type 0) where
+-- what is read of the memory is held, or there is an excuse
+abbrev pub ReadsOr : Target → CObjects → (excuse : Type 0) → Type 0
+ReadsOr t objects excuse = (o : ℕ) (x : ℕ × CScalar) (v : ℤ) → (memory_of t).read objects o x ≡ Ok v → can_hold (table_of t) (Scalar x.1) v ≡ false → excuse
+
+module _ (p : Program) (s : CState) (excuse : Type 0) (reads : ReadsOr p.target s.objects excuse) where
   abbrev table : TargetTable
   table = table_of p.target
 
@@ -239,20 +233,20 @@ module _ (p : Program) (s : CState) (excuse : Type 0) where
   alive_by constant b to true = record { typed = tt; agrees = λ type is. some_is is }
   alive_by constant b to false = tt
 
-  scalar_by : (k : CScalar) (v : ℤ) → excuse → (test : Bool) → can_hold table (Scalar k) v ≡ test → Comes table excuse (Some (Arithmetic (Scalar k))) (if test then Ok (Num (Scalar k) v) else Err Stuck)
+  scalar_by : (k : CScalar) (v : ℤ) → (can_hold table (Scalar k) v ≡ false → excuse) → (test : Bool) → can_hold table (Scalar k) v ≡ test → Comes table excuse (Some (Arithmetic (Scalar k))) (if test then Ok (Num (Scalar k) v) else Err Stuck)
   scalar_by k v o true is = record { typed = is; agrees = λ type e. some_is e }
-  scalar_by k v o false is = λ type e. o
+  scalar_by k v o false is = λ type e. o is
 
-  scalar_comes : (k : CScalar) → excuse → (r : Result ℤ Fault) → Comes table excuse (Some (Arithmetic (Scalar k))) (on_ok (answered r) (of_scalar p.target k))
-  scalar_comes k o (Ok v) = scalar_by k v o (can_hold table (Scalar k) v) refl
-  scalar_comes k o (Err fault) = tt
+  scalar_comes : (k : CScalar) (r : Result ℤ Fault) → ((v : ℤ) → r ≡ Ok v → can_hold table (Scalar k) v ≡ false → excuse) → Comes table excuse (Some (Arithmetic (Scalar k))) (on_ok (answered r) (of_scalar p.target k))
+  scalar_comes k (Ok v) o = scalar_by k v (o v refl) (can_hold table (Scalar k) v) refl
+  scalar_comes k (Err fault) o = tt
 
-  read_comes : (l : Lvalue) → IsTypedPlace table l → (IsPart l → excuse) → Comes table excuse (of_read (place_type_of l)) (read p.target s l)
-  read_comes (Known (Num k v)) h o = record { typed = h; agrees = λ type is. some_is is }
-  read_comes (Known (Ptr constant b to)) h o = alive_by constant b to _
-  read_comes (Located constant to (Leaf k)) h o = scalar_comes k (o tt) _
-  read_comes (Located constant to (Many n a)) h o = λ type is. cc
-  read_comes (Located constant to (Struct k r)) h o = λ type is. cc
+  read_comes : (l : Lvalue) → IsTypedPlace table l → Comes table excuse (of_read (place_type_of l)) (read p.target s l)
+  read_comes (Known (Num k v)) h = record { typed = h; agrees = λ type is. some_is is }
+  read_comes (Known (Ptr constant b to)) h = alive_by constant b to _
+  read_comes (Located constant to (Leaf k)) h = scalar_comes k ((memory_of p.target).read s.objects to.object (to.offset, k)) (reads to.object (to.offset, k))
+  read_comes (Located constant to (Many n a)) h = λ type is. cc
+  read_comes (Located constant to (Struct k r)) h = λ type is. cc
 
   address_comes : (l : Lvalue) → Comes table excuse (of_address (place_type_of l)) (address_of l)
   address_comes (Known v) = λ type is. cc
@@ -268,14 +262,14 @@ module _ (p : Program) (s : CState) (excuse : Type 0) where
   pointer_cast_comes constant b (Num k v) = λ type is. cc
   pointer_cast_comes constant b (Ptr c from to) = pointer_by constant b to _
 
-module _ (p : Program) (excuse : Type 0) (o : excuse) where
+module _ (p : Program) (excuse : Type 0) where
   pointee_comes : (v : CValue) → PlaceComes (table_of p.target) excuse (of_pointee p.unit.structs (held_type v)) (pointee p.unit.structs v)
   pointee_comes (Num k v) = λ type is. cc
-  pointee_comes (Ptr constant b to) = record { typed = tt; agrees = λ type is. some_is is; excused = λ z. o }
+  pointee_comes (Ptr constant b to) = record { typed = tt; agrees = λ type is. some_is is }
 
   part_by : (constant : Bool) (to : Pointing) (found : Option CTree) → PlaceComes (table_of p.target) excuse (option_map (Stored constant) found) (part_at constant to found)
   part_by constant to None = λ type is. cc
-  part_by constant to (Some a) = record { typed = tt; agrees = λ type is. some_is is; excused = λ z. o }
+  part_by constant to (Some a) = record { typed = tt; agrees = λ type is. some_is is }
 
   member_comes : (m : Name) (l : Lvalue) → PlaceComes (table_of p.target) excuse (of_member m (place_type_of l)) (member_of p.target m l)
   member_comes m (Known v) = λ type is. cc
@@ -284,7 +278,7 @@ module _ (p : Program) (excuse : Type 0) (o : excuse) where
   member_comes m (Located constant to (Struct k r)) = part_by constant _ (member_tree r m)
 
   element_by : (constant : Bool) (to : Pointing) (a : CTree) (test : Bool) → PlaceComes (table_of p.target) excuse (Some (Stored constant a)) (if test then Ok (Located constant to a) else Err (Undefined Bounds))
-  element_by constant to a true = record { typed = tt; agrees = λ type is. some_is is; excused = λ z. o }
+  element_by constant to a true = record { typed = tt; agrees = λ type is. some_is is }
   element_by constant to a false = tt
 
   element_comes : (l : Lvalue) (v : CValue) → PlaceComes (table_of p.target) excuse (of_element (place_type_of l) (held_type v)) (element_of p.target l v)
@@ -294,25 +288,9 @@ module _ (p : Program) (excuse : Type 0) (o : excuse) where
   element_comes (Located constant to (Many n a)) (Num k i) = element_by constant _ a _
   element_comes (Located constant to (Many n a)) (Ptr c b other) = λ type is. cc
 
--- with an excuse for other forms nothing is asked
-any_form : (excuse : Type 0) → excuse → (e : Expr) → IsOfNumbers excuse e
-any_form excuse o (Number v suffix) = tt
-any_form excuse o (Read (Var x)) = tt
-any_form excuse o (Read (At e)) = o
-any_form excuse o (Read (Member place m)) = o
-any_form excuse o (Read (Element place e)) = o
-any_form excuse o (Address place) = o
-any_form excuse o (Unary op e) = any_form excuse o e
-any_form excuse o (Binary op a b) = (any_form excuse o a, any_form excuse o b)
-any_form excuse o (Cast Void e) = o
-any_form excuse o (Cast (Pointer constant base) e) = o
-any_form excuse o (Cast (Value to) e) = any_form excuse o e
-any_form excuse o (Cond c a b) = (any_form excuse o c, any_form excuse o a, any_form excuse o b)
-
 -- ---- all expressions
 
-module _ (p : Program) (s : CState) (h : NamesAreTyped (table_of p.target) s) (excuse : Type 0) (values : All (λ n. HoldsValue excuse n.1) s.frames.own)
-    (others : (x : Name) (e : Entity) → declared (map file_entity p.unit.objects) x ≡ Some e → excuse) where
+module _ (p : Program) (s : CState) (h : NamesAreTyped (table_of p.target) s) (excuse : Type 0) (reads : ReadsOr p.target s.objects excuse) where
   abbrev t : TargetTable
   t = table_of p.target
 
@@ -323,74 +301,65 @@ module _ (p : Program) (s : CState) (h : NamesAreTyped (table_of p.target) s) (e
   said_place place = static_place_type p s place
 
   read_of : (place : Place) → PlaceComes t excuse (said_place place) (eval_place p place s) → Comes t excuse (said (Read place)) (eval p (Read place) s)
-  read_of place comes = of_place t excuse of_read (said_place place) (eval_place p place s) (read p.target s) comes (λ l is. read_comes p s excuse l is.typed is.excused)
+  read_of place comes = of_place t excuse of_read (said_place place) (eval_place p place s) (read p.target s) comes (λ l is. read_comes p s excuse reads l is.typed)
 
   name_place_comes : (x : Name) → PlaceComes t excuse (said_place (Var x)) (eval_place p (Var x) s)
   name_place_comes x =
-      name_comes t excuse p.unit.structs x (map file_entity p.unit.objects) (file_place p.unit.structs 0 p.unit.objects x) (file_comes t excuse p.unit.structs x p.unit.objects 0 (others x)) s.frames.own h values
+      name_comes t excuse p.unit.structs x (map file_entity p.unit.objects) (file_place p.unit.structs 0 p.unit.objects x) (file_comes t excuse p.unit.structs x p.unit.objects 0) s.frames.own h
 
   mutual
-    value_comes : (e : Expr) → IsOfNumbers excuse e → Comes t excuse (said e) (eval p e s)
-    value_comes (Number v suffix) form = of_type_comes t excuse (constant_type_in t suffix v) v (first_holds t (candidates suffix) (pos v))
-    value_comes (Read (Var x)) form = read_of (Var x) (name_place_comes x)
-    value_comes (Read (At e)) form = read_of (At e) (place_comes (At e) form)
-    value_comes (Read (Member place m)) form = read_of (Member place m) (place_comes (Member place m) form)
-    value_comes (Read (Element place e)) form = read_of (Element place e) (place_comes (Element place e) form)
-    value_comes (Address place) form = of_place t excuse of_address (said_place place) (eval_place p place s) address_of (place_comes place form) (λ l is. address_comes p s excuse l)
-    value_comes (Unary op e) form =
-        on_ok_comes t (targets_are_sound p.target) excuse (said e) (said (Unary op e)) (eval p e s) (unary t op) (λ none. ap (option_and_then (of_unary t op)) none) (value_comes e form)
+    value_comes : (e : Expr) → Comes t excuse (said e) (eval p e s)
+    value_comes (Number v suffix) = of_type_comes t excuse (constant_type_in t suffix v) v (first_holds t (candidates suffix) (pos v))
+    value_comes (Read place) = read_of place (place_comes place)
+    value_comes (Address place) = of_place t excuse of_address (said_place place) (eval_place p place s) address_of (place_comes place) (λ l is. address_comes p s excuse reads l)
+    value_comes (Unary op e) =
+        on_ok_comes t (targets_are_sound p.target) excuse (said e) (said (Unary op e)) (eval p e s) (unary t op) (λ none. ap (option_and_then (of_unary t op)) none) (value_comes e)
         (unary_comes t (targets_are_sound p.target) excuse op (said e))
-    value_comes (Binary op a b) form =
-        on_ok_comes t (targets_are_sound p.target) excuse (said a) (said (Binary op a b)) (eval p a s) (λ v. binary t op v (eval p b s)) (λ none. ap (λ u. of_both (of_binary t op) u (said b)) none) (value_comes a form.0)
-        (λ v has. binary_comes t (targets_are_sound p.target) excuse op (said a) (said b) v has (eval p b s) (value_comes b form.1))
-    value_comes (Cast Void e) form = of_value t excuse (of_cast Void) (said e) (eval p e s) (cast p.target s Void) (value_comes e (any_form excuse form e)) (λ v typed. λ type is. form)
-    value_comes (Cast (Pointer constant base) e) form =
-        of_value t excuse (of_cast (Pointer constant base)) (said e) (eval p e s) (cast p.target s (Pointer constant base)) (value_comes e (any_form excuse form e)) (λ v typed. pointer_cast_comes p s excuse constant base v)
-    value_comes (Cast (Value to) e) form =
-        on_ok_comes t (targets_are_sound p.target) excuse (said e) (said (Cast (Value to) e)) (eval p e s) (cast p.target s (Value to)) (λ none. ap (option_and_then (of_cast (Value to))) none) (value_comes e form)
+    value_comes (Binary op a b) =
+        on_ok_comes t (targets_are_sound p.target) excuse (said a) (said (Binary op a b)) (eval p a s) (λ v. binary t op v (eval p b s)) (λ none. ap (λ u. of_both (of_binary t op) u (said b)) none) (value_comes a)
+        (λ v has. binary_comes t (targets_are_sound p.target) excuse op (said a) (said b) v has (eval p b s) (value_comes b))
+    value_comes (Cast Void e) = of_value t excuse (of_cast Void) (said e) (eval p e s) (cast p.target s Void) (value_comes e) (λ v typed. λ type is. cc)
+    value_comes (Cast (Pointer constant base) e) =
+        of_value t excuse (of_cast (Pointer constant base)) (said e) (eval p e s) (cast p.target s (Pointer constant base)) (value_comes e) (λ v typed. pointer_cast_comes p s excuse reads constant base v)
+    value_comes (Cast (Value to) e) =
+        on_ok_comes t (targets_are_sound p.target) excuse (said e) (said (Cast (Value to) e)) (eval p e s) (cast p.target s (Value to)) (λ none. ap (option_and_then (of_cast (Value to))) none) (value_comes e)
         (cast_comes p.target excuse to (said e))
-    value_comes (Cond c a b) form =
-        cond_comes p.target excuse (said c) (said a) (said b) (eval p c s) (eval p a s) (eval p b s) (value_comes c form.0) (value_comes a form.1) (value_comes b form.2)
+    value_comes (Cond c a b) =
+        cond_comes p.target excuse (said c) (said a) (said b) (eval p c s) (eval p a s) (eval p b s) (value_comes c) (value_comes a) (value_comes b)
 
-    place_comes : (place : Place) → excuse → PlaceComes t excuse (said_place place) (eval_place p place s)
-    place_comes (Var x) o = name_place_comes x
-    place_comes (At e) o = place_of_value t excuse (of_pointee p.unit.structs) (said e) (eval p e s) (pointee p.unit.structs) (value_comes e (any_form excuse o e)) (pointee_comes p excuse o)
-    place_comes (Member place m) o = place_of_place t excuse (of_member m) (said_place place) (eval_place p place s) (member_of p.target m) (place_comes place o) (member_comes p excuse o m)
-    place_comes (Element place e) o =
-        place_of_place t excuse (λ array. option_and_then (of_element array) (said e)) (said_place place) (eval_place p place s) (λ array. on_ok (eval p e s) (element_of p.target array)) (place_comes place o)
-        (λ array. place_of_value t excuse (of_element (place_type_of array)) (said e) (eval p e s) (element_of p.target array) (value_comes e (any_form excuse o e)) (element_comes p excuse o array))
+    place_comes : (place : Place) → PlaceComes t excuse (said_place place) (eval_place p place s)
+    place_comes (Var x) = name_place_comes x
+    place_comes (At e) = place_of_value t excuse (of_pointee p.unit.structs) (said e) (eval p e s) (pointee p.unit.structs) (value_comes e) (pointee_comes p excuse)
+    place_comes (Member place m) = place_of_place t excuse (of_member m) (said_place place) (eval_place p place s) (member_of p.target m) (place_comes place) (member_comes p excuse m)
+    place_comes (Element place e) =
+        place_of_place t excuse (λ array. option_and_then (of_element array) (said e)) (said_place place) (eval_place p place s) (λ array. on_ok (eval p e s) (element_of p.target array)) (place_comes place)
+        (λ array. place_of_value t excuse (of_element (place_type_of array)) (said e) (eval p e s) (element_of p.target array) (value_comes e) (element_comes p excuse array))
 
 -- ---- the laws
-
-any_slot : (slot : Slot) → HoldsValue ⊤ slot
-any_slot (Holding v) = tt
-any_slot (Naming object base) = tt
-
-any_names : (names : List (Name × Slot)) → All (λ n. HoldsValue ⊤ n.1) names
-any_names [] = All-nil (λ n. HoldsValue ⊤ n.1)
-any_names (n ∷ names) = All-cons (λ m. HoldsValue ⊤ m.1) n names (any_slot n.1) (any_names names)
 
 comes_if : (t : TargetTable) (excuse : Type 0) (said : Option ValueType) (r : Result CValue Trouble) → Comes t excuse said r → IfOk r (HasItsType t said)
 comes_if t excuse said (Ok v) h = h
 comes_if t excuse said (Err why) h = tt
 
 pub values_have_their_types : ValuesHaveTheirTypes
-values_have_their_types p e s h = comes_if (table_of p.target) ⊤ (static_type p s e) (eval p e s) (value_comes p s h ⊤ (any_names s.frames.own) (λ x entity is. tt) e (any_form ⊤ tt e))
+values_have_their_types p e s h = comes_if (table_of p.target) ⊤ (static_type p s e) (eval p e s) (value_comes p s h ⊤ (λ o x v is not. tt) e)
 
 place_if : (t : TargetTable) (said : Option PlaceType) (r : Result Lvalue Trouble) → PlaceComes t ⊤ said r → IfOk r (HasItsPlaceType t said)
-place_if t said (Ok l) h = record { typed = h.typed; agrees = h.agrees }
+place_if t said (Ok l) h = h
 place_if t said (Err why) h = tt
 
 pub places_have_their_types : PlacesHaveTheirTypes
-places_have_their_types p place s h =
-    place_if (table_of p.target) (static_place_type p s place) (eval_place p place s) (place_comes p s h ⊤ (any_names s.frames.own) (λ x entity is. tt) place tt)
+places_have_their_types p place s h = place_if (table_of p.target) (static_place_type p s place) (eval_place p place s) (place_comes p s h ⊤ (λ o x v is not. tt) place)
 
-none_declared : (objects : List FileObject) → objects ≡ [] → (x : Name) (e : Entity) → declared (map file_entity objects) x ≡ Some e → ⊥
-none_declared objects none x e is = let found : (let r : Option Entity = None in r) ≡ Some e = subst (λ os. declared (map file_entity os) x ≡ Some e) none is in cc
+none_unheld : (t : Target) (objects : CObjects) → ReadsAreHeld t objects → ReadsOr t objects ⊥
+none_unheld t objects held o x v is not = let no : false ≡ true = sym not ∙ held o x v is in cc
 
--- an expression of numbers with a type: a value of it, or a reason
-pub typed_comes : (p : Program) (s : CState) → NamesAreTyped (table_of p.target) s → HasNoObjects p s → (e : Expr) → IsOfNumbers ⊥ e → Comes (table_of p.target) ⊥ (static_type p s e) (eval p e s)
-typed_comes p s h none e form = value_comes p s h ⊥ none.0 (none_declared p.unit.objects none.1) e form
+-- an expression or a place with a type: a value or place of it, or a reason
+pub typed_comes : (p : Program) (s : CState) → NamesAreTyped (table_of p.target) s → ReadsAreHeld p.target s.objects → (e : Expr) → Comes (table_of p.target) ⊥ (static_type p s e) (eval p e s)
+typed_comes p s h held e = value_comes p s h ⊥ (none_unheld p.target s.objects held) e
 
-pub typed_numbers_are_not_stuck : TypedNumbersAreNotStuck
-typed_numbers_are_not_stuck p e s type h none form is stuck = subst (Comes (table_of p.target) ⊥ (static_type p s e)) stuck (typed_comes p s h none e form) type is
+pub typed_place_comes : (p : Program) (s : CState) → NamesAreTyped (table_of p.target) s → ReadsAreHeld p.target s.objects → (place : Place) → PlaceComes (table_of p.target) ⊥ (static_place_type p s place) (eval_place p place s)
+typed_place_comes p s h held place = place_comes p s h ⊥ (none_unheld p.target s.objects held) place
+
+pub typed_expressions_are_not_stuck : TypedExpressionsAreNotStuck
+typed_expressions_are_not_stuck p e s type h held is stuck = subst (Comes (table_of p.target) ⊥ (static_type p s e)) stuck (typed_comes p s h held e) type is

@@ -4,7 +4,6 @@ pub mod Operands
 pub mod Bits
 pub mod HeldNumbers
 pub mod Expressions
-pub mod Stuck
 pub mod Names
 pub mod Memory
 pub mod Watched

@@ -17,11 +17,10 @@ use Rattle.c_ast.specs.Syntax.{Name, Read, Var}
 use Rattle.c_meaning.specs.Values.{Trouble, Stuck, Address, CValue, Num, Ptr, held_type, on_ok, typed, as_assigned, as_arguments}
 use Rattle.c_meaning.specs.State.{Program, Slot, Holding, Naming, CState}
 use Rattle.c_ast.specs.Names.{named}
-use Rattle.c_meaning.specs.Scopes.{value_in, name_value, slot_entity, local_entity, file_entity, declarations}
+use Rattle.c_meaning.specs.Scopes.{value_in, name_value, slot_entity, local_entity, file_entity, declarations, Declarations, and_name, of_params}
 use Rattle.c_meaning.specs.Places.{Lvalue, or_outer, alive, read}
 use Rattle.c_meaning.specs.Expressions.{static_type, eval}
 use Rattle.c_meaning.specs.Laws.{NamesAreAsDeclared}
-use Rattle.c_meaning.specs.Meant.{Declarations, and_name, of_params}
 use Rattle.c_meaning.specs.Runs.{param_types, bound}
 
 either : (v : CValue) (slot : Slot) (found : Option Slot) (entity : Option Entity) → (value_in found ≡ Some v → entity ≡ Some (ConstName (held_type v))) → (test : Bool)

@@ -15,10 +15,9 @@ use Rattle.c_ast.specs.declared.CType.{CType}
 use Rattle.c_ast.specs.declared.CType.TheVariants.{Void, Value}
 use Rattle.c_ast.specs.declared.Suffix.TheVariants.{Plain, U}
 use Rattle.c_ast.specs.declared.CExtern.{CExtern}
-use Rattle.c_ast.specs.declared.CBinary.TheVariants.{Div, Lt}
+use Rattle.c_ast.specs.declared.CBinary.TheVariants.{Div}
 use Rattle.c_ast.specs.Syntax.{Name, Expr, Number, Read, Binary, Var, Stmt, Const, ConstCall, If, IfElse, Forever, Break, Return, Block, Call, Nil, Function, TranslationUnit}
 use Rattle.c_ast.specs.Examples.{rows, procedure, unit_with}
-use Rattle.c_meaning.specs.Meant.{UnitIsMeant}
 use Rattle.c_meaning.specs.Laws.{no_site, watched}
 use Rattle.c_meaning.specs.Runs.{run_program, run_c}
 
@@ -262,13 +261,3 @@ pub record StuckExamples : Type 0 where
   pub returned_without : watched_once (calling Void (Return None ∷ []) (shows_result byte 9)) 9 ≡ lost
   pub outside_without : watched_once (blinking (ConstCall (codes "iv_y") byte (record { name = codes "iv_led"; args = number 1 ∷ [] }) ∷ [])) 9 ≡ outcome_of (led (pos 1) ∷ []) (Stopped no_site)
   pub undefined : watched_once (signed_led 128) 9 ≡ outcome_of [] (Undefined Implementation)
-
--- units with externs, parameters, results, conditions and loops are among those of the law
-abbrev pub bounded : Stmt
-bounded = If (Binary Lt (name (codes "iv_x")) (number 3)) (rows (Return (Some (number 0)) ∷ []))
-
-abbrev pub looping : Stmt
-looping = Forever (rows (Break ∷ []))
-
-abbrev pub MeantExample : Type 0
-MeantExample = UnitIsMeant (calling byte (bounded ∷ looping ∷ Return (Some half) ∷ []) (shows_result byte 9)) T32

@@ -1,12 +1,15 @@
 -- What holds of the values of expressions: they have the types of their expressions, and their numbers are numbers of these types; and an
--- expression of numbers that has a type is never stuck.
-use Rattle.std.specs.Prelude.{◌≡◌, ◌≢◌, ⊤, [], All, Option, Some, IfOk, IsTrue, Err}
-use Rattle.c_ast.specs.declared.CType.TheVariants.{Void, Value, Pointer}
-use Rattle.c_ast.specs.Syntax.{Expr, Number, Read, Address, Unary, Binary, Cast, Cond, Place, Var, At, Member, Element}
+-- expression that has a type is never stuck.
+use Rattle.std.specs.Prelude.{◌≡◌, ◌≢◌, ℕ, ℤ, ⊤, All, Option, Some, IfOk, IsTrue, Ok, Err}
+use Rattle.c_ast.specs.declared.CKind.TheVariants.{Scalar}
+use Rattle.c_ast.specs.declared.CScalar.{CScalar}
+use Rattle.c_ast.specs.declared.Target.{Target}
+use Rattle.c_ast.specs.Syntax.{Expr, Place}
 use Rattle.c_ast.specs.StaticTypes.{ValueType, PlaceType, Held, Stored}
 use Rattle.c_ast.specs.Targets.{TargetTable, table_of}
 use Rattle.c_ast.specs.Conversions.{can_hold}
 use Rattle.c_meaning.specs.Values.{Stuck, CValue, Num, Ptr, held_type}
+use Rattle.c_meaning.specs.Memory.{CObjects, memory_of}
 use Rattle.c_meaning.specs.State.{Program, Slot, Holding, Naming, CState}
 use Rattle.c_meaning.specs.Places.{Lvalue, Known, Located}
 use Rattle.c_meaning.specs.Expressions.{static_type, static_place_type, eval, eval_place}
@@ -51,32 +54,13 @@ ValuesHaveTheirTypes =
     (p : Program) (e : Expr) (s : CState) → NamesAreTyped (table_of p.target) s
     → IfOk (eval p e s) (HasItsType (table_of p.target) (static_type p s e))
 
--- ---- expressions of numbers
+-- ---- typed expressions
 
--- made of constants, names, operators and casts; of other forms this asks for `others`
-abbrev pub IsOfNumbers : (others : Type 0) → Expr → Type 0
-IsOfNumbers others (Number v suffix) = ⊤
-IsOfNumbers others (Read (Var x)) = ⊤
-IsOfNumbers others (Read (At e)) = others
-IsOfNumbers others (Read (Member place m)) = others
-IsOfNumbers others (Read (Element place e)) = others
-IsOfNumbers others (Address place) = others
-IsOfNumbers others (Unary op e) = IsOfNumbers others e
-IsOfNumbers others (Binary op a b) = IsOfNumbers others a × IsOfNumbers others b
-IsOfNumbers others (Cast (Value s) e) = IsOfNumbers others e
-IsOfNumbers others (Cast (Pointer constant base) e) = others
-IsOfNumbers others (Cast Void e) = others
-IsOfNumbers others (Cond c a b) = IsOfNumbers others c × IsOfNumbers others a × IsOfNumbers others b
+-- each number that a read gives is one that its scalar can hold
+abbrev pub ReadsAreHeld : Target → CObjects → Type 0
+ReadsAreHeld t objects = (o : ℕ) (x : ℕ × CScalar) (v : ℤ) → (memory_of t).read objects o x ≡ Ok v → IsTrue (can_hold (table_of t) (Scalar x.1) v)
 
--- a name that holds a value; of a name of an object this asks for `others`
-abbrev pub HoldsValue : (others : Type 0) → Slot → Type 0
-HoldsValue others (Holding v) = ⊤
-HoldsValue others (Naming object base) = others
-
-abbrev pub HasNoObjects : Program → CState → Type 0
-HasNoObjects p s = All (λ n. HoldsValue ⊥ n.1) s.frames.own × (p.unit.objects ≡ [])
-
-abbrev pub TypedNumbersAreNotStuck : Type 0
-TypedNumbersAreNotStuck =
-    (p : Program) (e : Expr) (s : CState) (type : ValueType) → NamesAreTyped (table_of p.target) s → HasNoObjects p s
-    → IsOfNumbers ⊥ e → static_type p s e ≡ Some type → eval p e s ≢ Err Stuck
+abbrev pub TypedExpressionsAreNotStuck : Type 0
+TypedExpressionsAreNotStuck =
+    (p : Program) (e : Expr) (s : CState) (type : ValueType) → NamesAreTyped (table_of p.target) s → ReadsAreHeld p.target s.objects
+    → static_type p s e ≡ Some type → eval p e s ≢ Err Stuck

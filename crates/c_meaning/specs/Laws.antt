@@ -1,4 +1,4 @@
--- What holds of every run of C, and when a run is never stuck.
+-- What holds of every run of C, and what it is never to be stuck.
 use Rattle.std.specs.Prelude.{◌≡◌, ◌≢◌, ℕ, ℤ, ◌^◌, List, map, Ok, IsTrue}
 use Rattle.run_records.specs.declared.End.TheVariants.{Stopped}
 use Rattle.run_records.specs.declared.Script.{Script}
@@ -20,8 +20,7 @@ use Rattle.c_ast.specs.Syntax.{Name, TranslationUnit}
 use Rattle.c_meaning.specs.Values.{CValue, as_assigned, as_arguments}
 use Rattle.c_meaning.specs.Memory.{memory_of}
 use Rattle.c_meaning.specs.State.{Program, CState, declare}
-use Rattle.c_meaning.specs.Scopes.{local_entity, declarations}
-use Rattle.c_meaning.specs.Meant.{and_name, of_params, UnitIsMeant}
+use Rattle.c_meaning.specs.Scopes.{local_entity, declarations, and_name, of_params}
 use Rattle.c_meaning.specs.Runs.{param_types, bound, run_program, run_c}
 
 -- for each number of steps there is one outcome; more steps only add events, and an end is the end
@@ -70,7 +69,3 @@ IsNotStuck how = how ≢ FailedCheck no_site
 -- no run of a script that fits is ever stuck
 abbrev pub NeverStuck : TranslationUnit → Target → Type 0
 NeverStuck u t = (script : Script) → Fits script (c_exports u) → (n : ℕ) → (run_program (watched u t) script n).end ≢ Stopped no_site
-
--- so it is of each unit of the forms that have a meaning, where its expressions and calls are typed
-abbrev pub MeantUnitsAreNeverStuck : Type 0
-MeantUnitsAreNeverStuck = (u : TranslationUnit) (t : Target) → UnitIsMeant u t → NeverStuck u t

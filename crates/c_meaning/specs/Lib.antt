@@ -10,7 +10,6 @@ pub mod Calls
 pub mod Statements
 pub mod Runs
 pub mod ExpressionLaws
-pub mod Meant
 pub mod Laws
 pub mod NumberExamples
 pub mod ValueExamples

@@ -1,8 +1,12 @@
 -- The names that a state has in scope, and as what they were declared.
-use Rattle.std.specs.Prelude.{List, map, ◌++◌, false, Option, Some, None}
+use Rattle.std.specs.Prelude.{List, [], ◌∷◌, map, ◌++◌, false, Option, Some, None}
+use Rattle.c_ast.specs.declared.CKind.TheVariants.{Scalar}
+use Rattle.c_ast.specs.declared.CParam.{CParam}
+use Rattle.c_ast.specs.declared.CType.{CType}
+use Rattle.c_ast.specs.declared.CType.TheVariants.{Void, Value, Pointer}
 use Rattle.c_ast.specs.Names.{named}
 use Rattle.c_ast.specs.Syntax.{Name, FileObject}
-use Rattle.c_ast.specs.StaticTypes.{Entity, ConstName, ObjectName, Scope, declared}
+use Rattle.c_ast.specs.StaticTypes.{Arithmetic, PointerTo, Entity, ConstName, ObjectName, Scope, declared}
 use Rattle.c_meaning.specs.Values.{CValue, held_type}
 use Rattle.c_meaning.specs.State.{Program, Slot, Holding, Naming, CState}
 
@@ -33,3 +37,18 @@ declarations p s = map local_entity s.frames.own ++ map file_entity p.unit.objec
 
 abbrev pub scope_of : Program → CState → Scope
 scope_of p s = declared (declarations p s)
+
+-- ---- what declarations add
+
+abbrev pub Declarations : Type 0
+Declarations = List (Name × Entity)
+
+-- a name that holds a value of the type is declared
+abbrev pub and_name : Name → CType → Declarations → Declarations
+and_name x (Value s) scope = (x, ConstName (Arithmetic (Scalar s))) ∷ scope
+and_name x Void scope = scope
+and_name x (Pointer constant base) scope = (x, ConstName (PointerTo constant base)) ∷ scope
+
+abbrev pub of_params : List CParam → Declarations
+of_params [] = []
+of_params (x ∷ xs) = and_name x.name x.ty (of_params xs)

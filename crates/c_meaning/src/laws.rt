@@ -1,10 +1,10 @@
-ghost use Rattle.c_meaning.specs.Laws.{RunLaws, MemoryIsLawful, ObjectsHoldValues, NamesAreAsDeclared, WatchedRunsAreRuns, MeantUnitsAreNeverStuck};
-ghost use Rattle.c_meaning.specs.ExpressionLaws.{ValuesHaveTheirTypes, PlacesHaveTheirTypes, TypedNumbersAreNotStuck};
+ghost use Rattle.c_meaning.specs.Laws.{RunLaws, MemoryIsLawful, ObjectsHoldValues, NamesAreAsDeclared, WatchedRunsAreRuns};
+ghost use Rattle.c_meaning.specs.ExpressionLaws.{ValuesHaveTheirTypes, PlacesHaveTheirTypes, TypedExpressionsAreNotStuck};
 ghost use Rattle.c_meaning.specs.NumberExamples.{SumExamples, ProductExamples, QuotientExamples, BitExamples, LeftShiftExamples, RightShiftExamples, ComparisonExamples, UnaryExamples, PointerExamples};
 ghost use Rattle.c_meaning.specs.ValueExamples.{NameExamples, OrderExamples, CastExamples, ConditionExamples};
 ghost use Rattle.c_meaning.specs.PlaceExamples.{ReadExamples, ElementExamples, PointerCastExamples};
 ghost use Rattle.c_meaning.specs.MemoryExamples.{ObjectExamples, MissingExamples, AssignmentExamples, ReturnedPointerExamples, PassedPointer, OutsideExamples, FileScopeExamples};
-ghost use Rattle.c_meaning.specs.Examples.{EmptyMain, EmptyMainNeedsAStep, NoCalls, HiddenMain, LedOnce, LedNeedsAStep, LedTwice, LedWraps, LedTruth, LedSigned, LedTooGreat, LedTooGreatLater, Replied, NotReplied, BadlyReplied, Stops, CallsEarlier, CallsEarlierInSteps, CallsItself, EndlessLoop, EndlessLed, LoopLeft, LoopLeftInSteps, Returns, Blocks, EntryValueExamples, CallValueExamples, NameAndConditionExamples, StuckExamples, MeantExample};
+ghost use Rattle.c_meaning.specs.Examples.{EmptyMain, EmptyMainNeedsAStep, NoCalls, HiddenMain, LedOnce, LedNeedsAStep, LedTwice, LedWraps, LedTruth, LedSigned, LedTooGreat, LedTooGreatLater, Replied, NotReplied, BadlyReplied, Stops, CallsEarlier, CallsEarlierInSteps, CallsItself, EndlessLoop, EndlessLed, LoopLeft, LoopLeftInSteps, Returns, Blocks, EntryValueExamples, CallValueExamples, NameAndConditionExamples, StuckExamples};
 
 /// The outcomes of a run of C: one for each number of steps, whose events only grow, and whose end stays.
 pub fn run_laws()
@@ -17,25 +17,22 @@ pub fn memory_laws<W>()
     ensures values { ObjectsHoldValues W }
 {}
 
-/// A unit of the forms that have a meaning is never stuck, where its expressions and calls are typed.
 /// A run that is watched, so that being stuck is seen, is a run of the unit wherever it is not stuck.
-pub fn stuck_laws()
-    ensures never { MeantUnitsAreNeverStuck }
-    ensures watched { WatchedRunsAreRuns }
+pub fn watched_laws()
+    ensures { WatchedRunsAreRuns }
 {}
 
-/// Which runs are stuck, and a unit that never is.
+/// Which runs are stuck.
 pub fn stuck_examples()
-    ensures stuck { StuckExamples }
-    ensures meant { MeantExample }
+    ensures { StuckExamples }
 {}
 
-/// The value of an expression is one of the type of the expression, and so is a place; a typed expression of numbers is not stuck;
+/// The value of an expression is one of the type of the expression, and so is a place; a typed expression is not stuck where what is read is held;
 /// names are as declared.
 pub fn type_laws()
     ensures types { ValuesHaveTheirTypes }
     ensures places { PlacesHaveTheirTypes }
-    ensures not_stuck { TypedNumbersAreNotStuck }
+    ensures not_stuck { TypedExpressionsAreNotStuck }
     ensures declared { NamesAreAsDeclared }
 {}
 

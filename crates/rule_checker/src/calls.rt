@@ -54,7 +54,7 @@ fn region_from(number: u32, matched: Matched) -> Option<Region>
 }
 
 /// The region of the first argument whose parameter's region has the number.
-fn known(before: &[Matched], number: u32) -> Option<Region>
+pub fn known(before: &[Matched], number: u32) -> Option<Region>
     ensures { result ≡ regions.known (map arguments.passed_at before.now) number }
 {
     for matched in before {
@@ -102,7 +102,7 @@ fn argument_want<'a>(before: &[Matched<'a>], param: Option<&'a Option<ValueType>
     }
 }
 
-fn matched<'a>(context: &'a Context, param: &'a Option<ValueType>, arg: &Expr) -> Matched<'a>
+fn passed<'a>(context: &'a Context, param: &'a Option<ValueType>, arg: &Expr) -> Matched<'a>
     ensures { arguments.passed_at result ≡ nodes.matched (context_of context.now) (option_map type_of param.now) (expr_of arg.now) }
 {
     Matched {
@@ -112,7 +112,7 @@ fn matched<'a>(context: &'a Context, param: &'a Option<ValueType>, arg: &Expr) -
 }
 
 /// Keeps an argument with its parameter, where it has one.
-fn learn<'a>(
+pub fn learn<'a>(
     before: &mut Seq<Matched<'a>>,
     context: &'a Context,
     param: Option<&'a Option<ValueType>>,
@@ -121,13 +121,13 @@ fn learn<'a>(
     ensures { OnOk result (map arguments.passed_at before.new ≡ arguments.learned (context_of context.now) (map arguments.passed_at before.old) (option_map (option_map type_of) (option_copied param.entry)) (expr_of arg.now)) }
 {
     match param {
-        Some(param) => before.push(matched(context, param, arg)),
+        Some(param) => before.push(passed(context, param, arg)),
         None => Ok(()),
     }
 }
 
 /// The first of the parameters, where there is one, and those after it.
-fn split_param<'a>(
+pub fn split_param<'a>(
     params: &'a [Option<ValueType>],
 ) -> (Option<&'a Option<ValueType>>, &'a [Option<ValueType>])
     ensures { arguments.Splits (option_copied result.0) result.1.now params.now }

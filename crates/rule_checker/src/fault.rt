@@ -13,7 +13,7 @@ pub struct RuleFault {
 }
 
 /// The fault of a node: its own broken rule, else the fault within it.
-pub(crate) fn at_place(rule: Option<u8>, span: Span, within: Option<RuleFault>) -> Option<RuleFault>
+pub fn at_place(rule: Option<u8>, span: Span, within: Option<RuleFault>) -> Option<RuleFault>
     ensures { found result ≡ at_place rule span (found within) }
 {
     match rule {
@@ -23,7 +23,7 @@ pub(crate) fn at_place(rule: Option<u8>, span: Span, within: Option<RuleFault>) 
 }
 
 /// The first of two faults in the order of the text.
-pub(crate) fn either(first: Option<RuleFault>, second: Option<RuleFault>) -> Option<RuleFault>
+pub fn either(first: Option<RuleFault>, second: Option<RuleFault>) -> Option<RuleFault>
     ensures { found result ≡ either (found first) (found second) }
 {
     match first {

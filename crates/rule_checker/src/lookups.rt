@@ -16,7 +16,7 @@ use area_types::{FieldDef, StructDef};
 use iv_words::Word;
 use ivory_tree::{BitField, BitsItem};
 
-pub(crate) fn has_word(names: &[Word], name: &Word) -> bool
+pub fn has_word(names: &[Word], name: &Word) -> bool
     ensures { result ≡ earlier.has_word names.now name.now }
 {
     for known in names {
@@ -62,7 +62,7 @@ pub(crate) fn area_named<'a>(items: &'a Items, name: &Word) -> Option<&'a AreaEn
     None
 }
 
-pub(crate) fn callee_named<'a>(items: &'a Items, name: &Word) -> Option<&'a CalleeEntry>
+pub fn callee_named<'a>(items: &'a Items, name: &Word) -> Option<&'a CalleeEntry>
     ensures { option_map callee_entry_of (option_copied result) ≡ earlier.callee_named (earlier_of items.now) name.now }
 {
     for entry in items.callees.iter() {
@@ -73,7 +73,7 @@ pub(crate) fn callee_named<'a>(items: &'a Items, name: &Word) -> Option<&'a Call
     None
 }
 
-pub(crate) fn is_area(items: &Items, name: &Word) -> bool
+pub fn is_area(items: &Items, name: &Word) -> bool
     ensures { result ≡ earlier.is_area (earlier_of items.now) name.now }
 {
     for entry in items.areas.iter() {
@@ -84,7 +84,7 @@ pub(crate) fn is_area(items: &Items, name: &Word) -> bool
     false
 }
 
-pub(crate) fn is_callee(items: &Items, name: &Word) -> bool
+pub fn is_callee(items: &Items, name: &Word) -> bool
     ensures { result ≡ earlier.is_callee (earlier_of items.now) name.now }
 {
     for entry in items.callees.iter() {
@@ -96,14 +96,14 @@ pub(crate) fn is_callee(items: &Items, name: &Word) -> bool
 }
 
 #[tactic(auto, using(crate::proofs::Searches::position_is_any))]
-pub(crate) fn is_struct(items: &Items, name: &Word) -> bool
+pub fn is_struct(items: &Items, name: &Word) -> bool
     ensures { result ≡ earlier.is_struct (earlier_of items.now) name.now }
 {
     number_of_struct(items, name).is_some()
 }
 
 #[tactic(auto, using(crate::proofs::Searches::position_is_any))]
-pub(crate) fn is_bits(items: &Items, name: &Word) -> bool
+pub fn is_bits(items: &Items, name: &Word) -> bool
     ensures { result ≡ earlier.is_bits (earlier_of items.now) name.now }
 {
     number_of_bits(items, name).is_some()

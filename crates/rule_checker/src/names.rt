@@ -24,7 +24,7 @@ use iv_words::{IntKind, Word};
 use ivory_tree::BitField;
 
 /// The type that an entry has, where it has one.
-pub(crate) fn type_if_any(ty: &Option<ValueType>) -> Option<TypeRef>
+pub fn type_if_any(ty: &Option<ValueType>) -> Option<TypeRef>
     ensures { type_seen result ≡ option_map type_of ty.now }
 {
     match ty {
@@ -34,7 +34,7 @@ pub(crate) fn type_if_any(ty: &Option<ValueType>) -> Option<TypeRef>
 }
 
 /// Whether a local name may not be of this form: it is one of the module's, or in scope.
-pub(crate) fn is_taken(context: &Context, name: &Word) -> bool
+pub fn is_taken(context: &Context, name: &Word) -> bool
     ensures { result ≡ contexts.is_taken (context_of context.now) name.now }
 {
     has_word(context.names.as_slice(), name) || in_scope(context, name)
@@ -94,13 +94,13 @@ pub(crate) fn outcome_type(context: &Context) -> Option<TypeRef>
 }
 
 /// Whether it may be the length of an array, an index or a loop.
-pub(crate) fn is_length(length: u64) -> bool
+pub fn is_length(length: u64) -> bool
     ensures { result ≡ tables.is_length length }
 {
     1 <= length && length <= 65_535
 }
 
-pub(crate) fn index_type<'a>(length: u64) -> Option<TypeRef<'a>>
+pub fn index_type<'a>(length: u64) -> Option<TypeRef<'a>>
     ensures { type_seen result ≡ written.index_type length }
 {
     if 1 <= length && length <= 65_535 {

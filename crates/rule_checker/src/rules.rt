@@ -29,7 +29,7 @@ use iv_words::Word;
 use ivory_tree::{BinOp, PrefixOp};
 
 /// The rule, where it is broken.
-pub(crate) fn when(broken: bool, rule: u8) -> Option<u8>
+pub fn when(broken: bool, rule: u8) -> Option<u8>
     ensures { result ≡ rows.least (rows.one_row rule broken) }
 {
     if broken { Some(rule) } else { None }
@@ -83,7 +83,7 @@ fn wanted_rule(want: Want, settled: bool, own: Option<TypeRef>) -> Option<u8>
     when(has_another_type(want, settled, own), 20)
 }
 
-pub(crate) fn given_reference<'a>(own: Option<TypeRef<'a>>) -> Option<Reference<'a>>
+pub fn given_reference<'a>(own: Option<TypeRef<'a>>) -> Option<Reference<'a>>
     ensures { reference_seen result ≡ option_and_then calls.reference_of (type_seen own.entry) }
 {
     match own {

@@ -134,14 +134,14 @@ pub(crate) fn is_reference(t: TypeRef) -> bool
     }
 }
 
-pub(crate) fn is_plain(t: TypeRef) -> bool
+pub fn is_plain(t: TypeRef) -> bool
     ensures { result ≡ is_plain (type_at t.entry) }
 {
     is_truth(t) || is_integer(t)
 }
 
 /// What a type says of a reference, where it is the type of one.
-pub(crate) fn reference_of<'a>(t: TypeRef<'a>) -> Option<Reference<'a>>
+pub fn reference_of<'a>(t: TypeRef<'a>) -> Option<Reference<'a>>
     ensures { option_map reference_at result ≡ reference_of (type_at t.entry) }
 {
     match t {
@@ -151,7 +151,7 @@ pub(crate) fn reference_of<'a>(t: TypeRef<'a>) -> Option<Reference<'a>>
 }
 
 /// What is stored in the area behind a reference.
-pub(crate) fn stored_type<'a>(t: TypeRef<'a>) -> Option<TypeRef<'a>>
+pub fn stored_type<'a>(t: TypeRef<'a>) -> Option<TypeRef<'a>>
     ensures { option_map type_at result ≡ stored_type (type_at t.entry) }
 {
     match t {
@@ -252,7 +252,7 @@ pub(crate) fn same_region(a: Region, b: Region) -> bool
 
 /// Whether the two are one area type.
 #[cycle(same)]
-pub(crate) fn same_area(a: &Area, b: &Area) -> bool
+pub fn same_area(a: &Area, b: &Area) -> bool
     ensures { result ≡ same_area (area_of a.now) (area_of b.now) }
 {
     match (a, b) {

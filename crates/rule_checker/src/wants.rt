@@ -43,7 +43,7 @@ pub(crate) fn wanted_type<'a>(want: Want<'a>) -> Option<TypeRef<'a>>
     }
 }
 
-pub(crate) fn wants<'a>(t: Option<TypeRef<'a>>) -> Want<'a>
+pub fn wants<'a>(t: Option<TypeRef<'a>>) -> Want<'a>
     ensures { want_at result ≡ rules.wants (type_seen t.entry) }
 {
     match t {
@@ -159,7 +159,7 @@ pub(crate) fn of_index<'a>(base: Option<TypeRef<'a>>) -> Want<'a>
 }
 
 /// Of the value of a store: the cell's type.
-pub(crate) fn of_stored<'a>(context: &'a Context, target: &Expr) -> Want<'a>
+pub fn of_stored<'a>(context: &'a Context, target: &Expr) -> Want<'a>
     ensures { want_at result ≡ rules.of_stored (context_of context.now) (expr_of target.now) }
 {
     wants(stored_of(own_type(context, target)))

@@ -6,7 +6,7 @@ pub returns-clause-types : goal.returns-clause-types
 returns-clause-types c = expressions.values_have_their_types
 
 pub returns-clause-not_stuck : goal.returns-clause-not_stuck
-returns-clause-not_stuck c = expressions.typed_numbers_are_not_stuck
+returns-clause-not_stuck c = expressions.typed_expressions_are_not_stuck
 
 pub returns-clause-declared : goal.returns-clause-declared
 returns-clause-declared c = names.names_are_as_declared

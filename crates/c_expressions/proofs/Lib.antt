@@ -1,0 +1,4 @@
+pub mod Frames
+pub mod Choices
+pub mod Meanings
+pub mod Members

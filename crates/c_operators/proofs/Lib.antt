@@ -1,0 +1,4 @@
+mod Sums
+mod ByClass
+mod InCommon
+pub mod Excuses

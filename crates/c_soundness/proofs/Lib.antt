@@ -1,0 +1,11 @@
+pub mod Kept
+pub mod Typed
+pub mod Names
+pub mod HeldMemory
+pub mod Given
+pub mod Evaluated
+pub mod Outside
+pub mod Statements
+pub mod Functions
+pub mod Entries
+pub mod Units

@@ -1,0 +1,10 @@
+pub mod Boundaries
+pub mod Cells
+pub mod Around
+pub mod Rules
+pub mod Params
+pub mod Fields
+pub mod Conditions
+pub mod Entries
+pub mod Within
+pub mod Names

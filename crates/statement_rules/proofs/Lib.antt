@@ -1,0 +1,5 @@
+pub mod Rows
+pub mod Told
+pub mod Scopes
+pub mod Breaks
+pub mod Passed

@@ -87,7 +87,7 @@ pub other : (v : List ℕ) → (length v ≡ 2 → ⊥) → (length v ≡ 3 → 
 other v a b c d e f g h =
     let n = length v in
     let none : of_length n (keywords ++ defined_names) ≡ [] = none_so_long n (keywords ++ defined_names)
-        (no_length n (ne_eqb n 2 a) (ne_eqb n 3 b) (ne_eqb n 4 c) (ne_eqb n 5 d) (ne_eqb n 6 e) (ne_eqb n 7 f) (ne_eqb n 8 g) (ne_eqb n 10 h)) refl in
+    (no_length n (ne_eqb n 2 a) (ne_eqb n 3 b) (ne_eqb n 4 c) (ne_eqb n 5 d) (ne_eqb n 6 e) (ne_eqb n 7 f) (ne_eqb n 8 g) (ne_eqb n 10 h)) refl in
     of_this_length v n refl ∙ ap (list_any (same_word v)) none
 
 pub ruleset by_length = (two, three, four, five, six, seven, eight, ten, other)

@@ -4,7 +4,6 @@ ghost use Rattle.std.specs.Prelude.{◌≡◌, ◌≤◌, length, IfErr, IfOk};
 ghost use Rattle.c_ast.specs.View.{unit_of};
 ghost use Rattle.c_text.specs.ReadsBack.{ReadsBack};
 ghost use Rattle.c_text.specs.Spelling.{unit_text};
-ghost use Rattle.c_text.specs.Subset.{InSubset};
 ghost use Rattle.c_reader.specs.Answers.{Kept, OnlyUnit, Read, Told, ToldOfNone, ToldWithin, text_limit, told_of};
 
 use c_ast::{CUnit, Target};
@@ -49,10 +48,9 @@ fn read(alloc: Global, bytes: &[u8], target: Target) -> Result<CUnit, ReadFault>
     }
 }
 
-/// A unit of the subset again, where it keeps the rules of names and types.
+/// A unit again, where it keeps the rules of names and types.
 fn kept(alloc: Global, unit: CUnit, target: Target) -> Result<CUnit, ReadFault>
-    requires subset { InSubset (unit_of unit) }
-    requires short { length (unit_text (unit_of unit)) ≤ text_limit }
+    requires { length (unit_text (unit_of unit)) ≤ text_limit }
     ensures { Kept target (unit_of unit) result }
 {
     match first_broken(alloc, &unit, target) {

@@ -1,4 +1,4 @@
-//! Texts with what is answered of them: each fault by itself, with its place.
+//! Texts that are read. What is answered of others is told by the law of small texts.
 
 use super::*;
 use std::alloc::Global;
@@ -22,49 +22,6 @@ fn answer_behind(alloc: Global, lines: &str) -> Result<Option<CFault>, Fail> {
         "#include <stdint.h>\n#include <stdbool.h>\nextern void ivory_stop(uint32_t);\n{lines}"
     )?;
     answer(alloc, text.as_bytes())
-}
-
-#[test]
-fn tells_each_fault(rt: HostRuntime) -> Result<(), Fail> {
-    let rows: [(&str, u32, CWhy); 6] = [
-        ("static  uint8_t *iv_f(void) {\n", 81, CWhy::Syntax),
-        (
-            "void iv_main(void) {\n  for(;;) {\n  }\n}\n",
-            101,
-            CWhy::Syntax,
-        ),
-        ("void iv_a(void) {\n", 93, CWhy::Syntax),
-        ("void iv_a(void) {\n  iv_b();\n}\n", 95, CWhy::BadName),
-        ("void iv_a(void) {\n  break;\n}\n", 95, CWhy::BadType),
-        (
-            "uint8_t iv_a(void) {\n  iv_b();\n  return;\n}\n",
-            98,
-            CWhy::BadName,
-        ),
-    ];
-    for (lines, at, why) in rows {
-        let fault = answer_behind(rt.alloc(), lines)?;
-        assert_eq!(rt; fault, Some(CFault { at, why }));
-    }
-    Ok(())
-}
-
-#[test]
-fn tells_the_bracket_too_many(rt: HostRuntime) -> Result<(), Fail> {
-    let mut lines = format!(in rt.alloc(); "static uint8_t iv_a = ")?;
-    for _ in 0..301 {
-        lines.push_str("(-")?;
-    }
-    let fault = answer_behind(rt.alloc(), &lines)?;
-    let at = 697;
-    assert_eq!(rt;
-        fault,
-        Some(CFault {
-            at,
-            why: CWhy::TooDeep
-        })
-    );
-    Ok(())
 }
 
 #[test]

@@ -24,7 +24,7 @@ use Rattle.type_trees.proofs.Layouts.{align_row_some}
 use Rattle.c_rules.specs.declared.sizes.Size.{Size}
 use Rattle.c_rules.specs.Members.{member_asks}
 use Rattle.c_rules.specs.Sizes.{capped, ended, tree_size, row_size}
-use Rattle.c_rules.proofs.Rows.{asks}
+use Rattle.c_scopes.proofs.Rows.{asks}
 use Rattle.c_rules.proofs.SizeRows.{ended_is, end_push, align_push, cap_up}
 
 abbrev pub item : Target → List CStruct → List CMember → ℕ → CMember → List Demand

@@ -9,7 +9,7 @@ use Rattle.c_text.specs.Spelling.{params_text, param_text}
 use Rattle.c_text.specs.TypeText.{const_text, listed, type_text}
 use Rattle.c_text.specs.ExpressionRules.{type_demands}
 use Rattle.c_text.specs.UnitRules.{params_demands, types_demands, with_params}
-use Rattle.c_rules.proofs.Rows.{listed_asks}
+use Rattle.c_scopes.proofs.Rows.{listed_asks}
 
 pub none_listed : {X : Type 0} (text : X → List ℕ) (xs : List X) → length xs ≡ 0 → codes "(void)" ≡ params_text (map text xs)
 none_listed text [] none = refl

@@ -10,7 +10,7 @@ use Rattle.c_text.specs.Scopes.{Names, after}
 use Rattle.c_text.specs.TypeText.{texts}
 use Rattle.c_text.specs.StatementText.{indent, stmt_text, stmts_text}
 use Rattle.c_text.specs.StatementRules.{stmt_demands, stmts_demands}
-use Rattle.c_rules.proofs.Rows.{asks}
+use Rattle.c_scopes.proofs.Rows.{asks}
 
 abbrev pub text : ℕ → CStmt → List ℕ
 text braces s = stmt_text braces (stmt_of s)

@@ -1,6 +1,7 @@
 -- Declarations of each kind in a row, and a whole unit.
 use Rattle.std.proofs.Common.{◌≡◌, refl, sym, ◌∙◌, ap, ℕ, List, [], ◌∷◌, ◌++◌, append_assoc, arith}
-use Rattle.std.specs.Prelude.{map}
+use Rattle.std.specs.Prelude.{map, is_some}
+use denote.Bor.{Bor}
 use Rattle.std.proofs.lemmas.List.{append-nil}
 use Rattle.c_ast.specs.declared.types.Target.{Target}
 use Rattle.c_ast.specs.declared.unit.CExtern.{CExtern}
@@ -13,15 +14,20 @@ use Rattle.c_ast.specs.Syntax.{Name, FileObject, Function, TranslationUnit}
 use Rattle.c_ast.specs.View.{function_of, object_of}
 use Rattle.c_text.specs.Rules.{Demand, behind}
 use Rattle.c_text.specs.Scopes as scopes
+use Rattle.c_text.specs.Scopes.{with_value}
 use Rattle.c_text.specs.Spelling.{extern_text, file_object_text, fixed_text, function_text, struct_text}
 use Rattle.c_text.specs.TypeText.{texts}
 use Rattle.c_text.specs.UnitRules.{file_scope, extern_demands, externs_demands, function_demands, functions_demands, object_demands, objects_demands, struct_demands, structs_demands, unit_demands}
-use Rattle.c_rules.specs.declared.names.Names.{Names}
-use Rattle.c_rules.specs.Kept.{OthersStay}
-use Rattle.c_rules.specs.Scope.{names_view, stop_alone, with_externs, with_functions}
-use Rattle.c_rules.specs.UnitRows.{structs_asks, externs_asks, with_object, with_objects, objects_asks, with_signatures, with_function, functions_asks}
-use Rattle.c_rules.proofs.Rows.{asks}
-use Rattle.c_rules.proofs.Walks.{behind_both}
+use Rattle.c_scopes.specs.declared.names.Names.{Names}
+use Rattle.c_rules.specs.Kept.{OthersStay, ButObjects}
+use Rattle.c_scopes.specs.declared.names.Entity as borrowed
+use Rattle.c_scopes.specs.declared.names.Entry.{Entry}
+use Rattle.c_scopes.specs.declared.names.Signature as called
+use Rattle.c_scopes.specs.declared.names.Signature.TheVariants as signature
+use Rattle.c_scopes.specs.Scope.{entity_view, entity_entry, functions_view, itself_view, names_view, stop_alone, with_externs, with_values}
+use Rattle.c_rules.specs.UnitRows.{structs_asks, externs_asks, extern_rows, with_extern, behind_externs, with_object, with_objects, objects_asks, with_function, functions_asks}
+use Rattle.c_scopes.proofs.Rows.{asks}
+use Rattle.c_scopes.proofs.Walks.{behind_both}
 
 -- ---- one kind after another
 
@@ -162,13 +168,50 @@ pub functions_row : (target : Target) (names : scopes.Names) (at : ℕ) (fs : Li
 functions_row target names at [] = refl
 functions_row target names at (f ∷ fs) = ap (λ ds. function_item target names at f ++ ds) (functions_row target (function_next names f) (behind at (function_line f)) fs)
 
--- ---- names before a function
+-- ---- externs, by the names in scope
 
-pub scope_is : (before now : Names) (fs : List CFunction) → before.functions.now ≡ [] → OthersStay before now
-    → with_signatures (names_view now) (with_functions (with_externs stop_alone now.externs.now) fs) ≡ with_signatures (names_view before) (with_functions (names_view before).functions fs)
-scope_is before now fs none others =
-    ap (λ n. with_signatures (names_view n) (with_functions (with_externs stop_alone n.externs.now) fs)) others
-    ∙ ap (λ gs. with_signatures (names_view before) (with_functions (with_functions (with_externs stop_alone before.externs.now) gs) fs)) (sym none)
+pub rows_of_externs : (structs : List CStruct) (functions : List (Name × Signature)) (at : ℕ) (xs : List CExtern) → extern_rows (file_scope structs functions []) at xs ≡ externs_asks structs functions at xs
+rows_of_externs structs functions at [] = refl
+rows_of_externs structs functions at (x ∷ xs) = ap (λ ds. extern_item structs functions at x ++ ds) (rows_of_externs structs (extern_next functions x) (behind at (extern_text x)) xs)
+
+pub scope_behind_externs : (structs : List CStruct) (functions : List (Name × Signature)) (xs : List CExtern) → behind_externs (file_scope structs functions []) xs ≡ file_scope structs (with_externs functions xs) []
+scope_behind_externs structs functions [] = refl
+scope_behind_externs structs functions (x ∷ xs) = scope_behind_externs structs (extern_next functions x) xs
+
+abbrev pub extern_asked : scopes.Names → ℕ → CExtern → List Demand
+extern_asked names at x = extern_demands names at x
+
+pub asked_of_externs : (names : scopes.Names) (at : ℕ) (xs : List CExtern) → asks extern_text extern_asked with_extern names at xs ≡ extern_rows names at xs
+asked_of_externs names at [] = refl
+asked_of_externs names at (x ∷ xs) = ap (λ ds. extern_asked names at x ++ ds) (asked_of_externs (with_extern names x) (behind at (extern_text x)) xs)
+
+-- ---- names that are declared at file scope
+
+pub extern_declared : (before now : Names) (x : Bor CExtern) → (let more : Names = record before { functions = (x.now.name, signature.Extern x) ∷ before.functions } in now ≡ more)
+    → names_view now ≡ with_extern (names_view before) x.now
+extern_declared before now x is = ap names_view is
+
+pub function_declared : (before now : Names) (f : Bor CFunction) → (let more : Names = record before { functions = (f.now.name, signature.Function f) ∷ before.functions } in now ≡ more)
+    → names_view now ≡ with_function (names_view before) (function_of f.now)
+function_declared before now f is = ap names_view is
+
+pub object_declared : (before now : Names) (o : CObject) (e : borrowed.Entity) → before.values ≡ [] → entity_view e ≡ ObjectName o.constant o.base
+    → (let more : Names = record before { objects = (o.name, e) ∷ before.objects } in now ≡ more) → names_view now ≡ with_object (names_view before) (object_of o)
+object_declared before now o e none says is =
+    ap names_view is ∙ ap (in_scope (entity_entry (o.name, e) ∷ map entity_entry before.objects)) none ∙ ap (λ x. with_value (in_scope (map entity_entry before.objects) []) o.name x) says
+    ∙ ap (λ vs. with_value (in_scope (map entity_entry before.objects) vs) o.name (ObjectName o.constant o.base)) (sym none)
+  where
+    in_scope : List (Name × Entity) → List Entry → scopes.Names
+    in_scope ds vs = record { structs = before.structs.now; functions = functions_view before.functions; itself = itself_view before.itself; values = with_values ds vs; in_function = is_some before.itself }
+
+pub save_functions : (before now : Names) (fs : List (Name × called.Signature)) → (let more : Names = record before { functions = fs } in now ≡ more) → OthersStay before now
+save_functions before now fs is = is ∙ ap (λ n. let m : Names = record before { functions = n.functions } in m) (sym is)
+
+pub save_objects : (before now : Names) (os : List (Name × borrowed.Entity)) → (let more : Names = record before { objects = os } in now ≡ more) → ButObjects before now
+save_objects before now os is = is ∙ ap (λ n. let m : Names = record before { objects = n.objects } in m) (sym is)
 
 pub others_stay : (before now after : Names) → OthersStay before now → OthersStay now after → OthersStay before after
 others_stay before now after first second = second ∙ ap (λ n. let m : Names = record n { functions = after.functions } in m) first
+
+pub objects_alone : (before now after : Names) → ButObjects before now → ButObjects now after → ButObjects before after
+objects_alone before now after first second = second ∙ ap (λ n. let m : Names = record n { objects = after.objects } in m) first

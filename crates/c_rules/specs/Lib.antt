@@ -1,11 +1,3 @@
-pub mod Joined
-pub mod Walks
-pub mod Views
-pub mod Shapes
-pub mod Scope
-pub mod Separated
-pub mod Given
-pub mod Slots
 pub mod Depths
 pub mod Kept
 pub mod Forms

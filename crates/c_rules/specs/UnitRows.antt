@@ -33,6 +33,17 @@ objects_asks target names at (o ∷ os) = object_demands target names at o ++ ob
 abbrev pub with_signatures : Names → List (Name × Signature) → Names
 with_signatures names functions = record { structs = names.structs; functions = functions; itself = names.itself; values = names.values; in_function = names.in_function }
 
+abbrev pub with_extern : Names → CExtern → Names
+with_extern names x = with_signatures names ((x.name, extern_signature x) ∷ names.functions)
+
+abbrev pub behind_externs : Names → List CExtern → Names
+behind_externs names [] = names
+behind_externs names (x ∷ xs) = behind_externs (with_extern names x) xs
+
+abbrev pub extern_rows : Names → ℕ → List CExtern → List Demand
+extern_rows names at [] = []
+extern_rows names at (x ∷ xs) = extern_demands names at x ++ extern_rows (with_extern names x) (behind at (extern_text x)) xs
+
 abbrev pub with_function : Names → Function → Names
 with_function names f = with_signatures names ((f.name, function_signature f) ∷ names.functions)
 

@@ -1,9 +1,9 @@
 ghost use Rattle.std.specs.Prelude.{[]};
 ghost use Rattle.c_text.specs.StatementText.{indent};
 ghost use Rattle.c_rules.specs.Depths.{depth};
-ghost use Rattle.c_rules.specs.Walks.{Walks};
+ghost use Rattle.c_scopes.specs.Walks.{Walks};
 
-use crate::walk::Walk;
+use c_scopes::Walk;
 
 /// In how many braces a line stands. It is counted by a row of these, since no number of a fixed width counts them all.
 #[derive(Drop)]

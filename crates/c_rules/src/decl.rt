@@ -1,20 +1,17 @@
 //! Names that are declared.
 
-ghost use Rattle.std.specs.Prelude.{◌≡◌, [], ◌++◌, take, OnOk};
+ghost use Rattle.std.specs.Prelude.{◌≡◌, [], ◌∷◌, ◌++◌, take, OnOk};
 ghost use Rattle.c_text.specs.Rules.{behind};
 ghost use Rattle.c_text.specs.TypeText.{const_text, object_text};
 ghost use Rattle.c_text.specs.Scopes.{new_name, with_value, with_const};
 ghost use Rattle.c_text.specs.ExpressionRules.{base_demands, type_demands};
 ghost use Rattle.c_rules.specs.Kept.{Kept};
-ghost use Rattle.c_rules.specs.Scope.{entity_view, names_view};
-ghost use Rattle.c_rules.specs.Walks.{Walks};
+ghost use Rattle.c_scopes.specs.Scope.{entity_view, names_view};
+ghost use Rattle.c_scopes.specs.Walks.{Walks};
 
-use crate::expr::{check_base, check_type};
-use crate::names::{Entity, Entry, Names};
-use crate::spelled::gap_name;
-use crate::types::{Wanted, wanted_of};
-use crate::walk::Walk;
 use c_ast::{CBase, CType};
+use c_expression_rules::{check_base, check_type};
+use c_scopes::{Entity, Entry, Names, Signature, Walk, Wanted, gap_name, wanted_of};
 use c_text::CWhy;
 use iv_words::{Memory, Word};
 
@@ -59,6 +56,28 @@ pub fn declare_const<'u>(names: &mut Names<'u>, name: &'u Word, ty: &'u CType) -
         Wanted::Scalar(scalar) => declare(names, name, Entity::Number(scalar)),
         Wanted::Pointer(constant, base) => declare(names, name, Entity::Pointer(constant, base)),
     }
+}
+
+/// Puts a function into scope, which can be called from there on.
+pub fn declare_function<'u>(
+    names: &mut Names<'u>,
+    name: &'u Word,
+    signature: Signature<'u>,
+) -> Result<(), Memory>
+    ensures { OnOk result (names.new ≡ record names.old { functions = (name.now, signature.entry) ∷ names.old.functions }) }
+{
+    names.functions.declare(name, signature)
+}
+
+/// Puts an object of file scope into scope.
+pub fn declare_object<'u>(
+    names: &mut Names<'u>,
+    name: &'u Word,
+    entity: Entity<'u>,
+) -> Result<(), Memory>
+    ensures { OnOk result (names.new ≡ record names.old { objects = (name.now, entity.entry) ∷ names.old.objects }) }
+{
+    names.objects.declare(name, entity)
 }
 
 /// Takes out of scope all but the first names.

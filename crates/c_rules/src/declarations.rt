@@ -1,26 +1,21 @@
 //! Externs, objects of file scope, and functions.
 
-ghost use Rattle.std.specs.Prelude.{◌≡◌, ◌++◌, None, OnOk};
-ghost use Rattle.c_ast.specs.StaticTypes.{ObjectName};
+ghost use Rattle.std.specs.Prelude.{◌≡◌, ◌++◌, [], None, OnOk};
 ghost use Rattle.c_ast.specs.View.{function_of, object_of};
-ghost use Rattle.c_text.specs.Scopes.{with_value};
 ghost use Rattle.c_text.specs.Spelling.{base_const_text, extern_text, file_object_text, function_text, storage_text};
 ghost use Rattle.c_text.specs.UnitRules.{extern_demands, function_demands, object_demands};
-ghost use Rattle.c_rules.specs.Kept.{Kept};
-ghost use Rattle.c_rules.specs.Scope.{names_view};
-ghost use Rattle.c_rules.specs.Walks.{Walks};
+ghost use Rattle.c_rules.specs.Kept.{ButObjects};
+ghost use Rattle.c_scopes.specs.Scope.{names_view};
+ghost use Rattle.c_rules.specs.UnitRows.{with_object};
+ghost use Rattle.c_scopes.specs.Walks.{Walks};
 
 use crate::braces::Braces;
-use crate::decl::{declare, leave};
-use crate::expr::check_base;
-use crate::init::check_init;
-use crate::names::{Entity, Names};
+use crate::decl::{declare_object, leave};
 use crate::params::{check_file_name, check_params, check_typed, check_types};
-use crate::shapes::shape_of;
 use crate::stmt::check_stmts;
-use crate::types::{base_of, wanted_of};
-use crate::walk::Walk;
 use c_ast::{CExtern, CFunction, CObject};
+use c_expression_rules::{check_base, check_init};
+use c_scopes::{Entity, Names, Walk, base_of, shape_of, wanted_of};
 use iv_words::Memory;
 
 pub fn check_extern(names: &Names, declared: &CExtern, walk: &mut Walk)
@@ -67,12 +62,13 @@ pub fn check_file_object<'u>(
     object: &'u CObject,
     walk: &mut Walk,
 ) -> Result<(), Memory>
+    requires { names.old.values ≡ [] }
     ensures walks { Walks walk.old walk.new (file_object_text (object_of object.now)) (object_demands names.old.target (names_view names.old) walk.old.at (object_of object.now)) }
-    ensures view { OnOk result (names_view names.new ≡ with_value (names_view names.old) object.now.name (ObjectName object.now.constant object.now.base)) }
-    ensures kept { OnOk result (Kept names.old names.new) }
+    ensures view { OnOk result (names_view names.new ≡ with_object (names_view names.old) (object_of object.now)) }
+    ensures others { OnOk result (ButObjects names.old names.new) }
 {
     check_object_line(&*names, object, walk);
-    declare(
+    declare_object(
         names,
         &object.name,
         Entity::Object(object.constant, base_of(&object.base)),

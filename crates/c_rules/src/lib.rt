@@ -2,22 +2,12 @@
 #![tactic(auto)]
 
 mod braces;
-mod call;
 mod decl;
 mod declarations;
-mod expr;
-mod init;
-mod names;
 mod params;
-mod shapes;
 mod sizes;
-mod spelled;
 mod stmt;
 mod structs;
-#[cfg(test)]
-mod tests;
-mod types;
 mod unit;
-mod walk;
 
 pub use unit::first_broken;

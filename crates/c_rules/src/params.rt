@@ -11,16 +11,13 @@ ghost use Rattle.c_text.specs.TypeText.{const_text, listed, type_text, typed_tex
 ghost use Rattle.c_text.specs.ExpressionRules.{type_demands};
 ghost use Rattle.c_text.specs.UnitRules.{file_name, params_demands, types_demands, with_params};
 ghost use Rattle.c_rules.specs.Kept.{Kept};
-ghost use Rattle.c_rules.specs.Scope.{names_view};
-ghost use Rattle.c_rules.specs.Walks.{Walks};
+ghost use Rattle.c_scopes.specs.Scope.{names_view};
+ghost use Rattle.c_scopes.specs.Walks.{Walks};
 
-use crate::call::pass_comma;
 use crate::decl::{check_const, declare_const};
-use crate::expr::check_type;
-use crate::names::Names;
-use crate::spelled::gap_name;
-use crate::walk::Walk;
 use c_ast::{CParam, CType};
+use c_expression_rules::{check_type, pass_comma};
+use c_scopes::{Names, Walk, gap_name};
 use c_text::CWhy;
 use iv_words::{Memory, Word};
 

@@ -16,20 +16,19 @@ ghost use Rattle.c_text.specs.StatementRules.{first_value_demands, assigned_dema
 ghost use Rattle.c_rules.specs.Depths.{depth};
 ghost use Rattle.c_rules.specs.Forms.{body_text, form_text};
 ghost use Rattle.c_rules.specs.Kept.{Kept};
-ghost use Rattle.c_rules.specs.Scope.{names_view};
-ghost use Rattle.c_rules.specs.Views.{type_view};
-ghost use Rattle.c_rules.specs.Walks.{Walks};
+ghost use Rattle.c_scopes.specs.Scope.{names_view};
+ghost use Rattle.c_scopes.specs.Views.{type_view};
+ghost use Rattle.c_scopes.specs.Walks.{Walks};
 
 use crate::braces::{Braces, pass_indent};
-use crate::call::{check_call, check_given, check_tested};
 use crate::decl::{check_const, check_object, declare, declare_const, leave};
-use crate::expr::{check_expr, check_place};
-use crate::init::check_init;
-use crate::names::{Entity, Names};
-use crate::shapes::{assigned_scalar, can_be_assigned, shape_of};
-use crate::types::{Wanted, base_of, wanted_of};
-use crate::walk::Walk;
 use c_ast::{CBase, CCall, CExpr, CInit, CPlace, CScalar, CStmt, CType};
+use c_expression_rules::{
+    check_call, check_expr, check_given, check_init, check_place, check_tested,
+};
+use c_scopes::{
+    Entity, Names, Walk, Wanted, assigned_scalar, base_of, can_be_assigned, shape_of, wanted_of,
+};
 use c_text::CWhy;
 use iv_words::{Memory, Word};
 

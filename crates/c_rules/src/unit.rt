@@ -1,46 +1,41 @@
 //! Whole units.
 
-ghost use Rattle.std.specs.Prelude.{◌≡◌, ◌≤◌, ◌++◌, [], length, map, IfOk, OnOk, None};
+ghost use Rattle.std.specs.Prelude.{◌≡◌, ◌≤◌, [], length, map, IfOk, OnOk, None};
 ghost use Rattle.c_ast.specs.View.{function_of, object_of, unit_of};
 ghost use Rattle.c_text.specs.FirstFault.{first_fault};
-ghost use Rattle.c_text.specs.Rules.{behind};
 ghost use Rattle.c_text.specs.Spelling.{extern_text, file_object_text, fixed_text, function_text, struct_text, unit_text};
 ghost use Rattle.c_text.specs.TypeText.{texts};
-ghost use Rattle.c_text.specs.UnitRules.{file_scope, function_demands, unit_demands};
-ghost use Rattle.c_rules.specs.Kept.{Kept, OthersStay};
-ghost use Rattle.c_rules.specs.Scope.{names_view, stop_alone, with_externs, with_functions};
+ghost use Rattle.c_text.specs.UnitRules.{extern_demands, file_scope, function_demands, unit_demands};
+ghost use Rattle.c_rules.specs.Kept.{ButObjects, OthersStay};
+ghost use Rattle.c_scopes.specs.Scope.{names_view, stop_alone};
 ghost use Rattle.c_rules.specs.Sizes.{sized_view, sizes_of};
-ghost use Rattle.c_rules.specs.UnitRows.{structs_asks, externs_asks, objects_asks, functions_asks, with_objects, with_signatures};
-ghost use Rattle.c_rules.specs.Walks.{Walks};
+ghost use Rattle.c_rules.specs.UnitRows.{behind_externs, extern_rows, functions_asks, objects_asks, structs_asks, with_extern, with_function, with_objects};
+ghost use Rattle.c_scopes.specs.Walks.{Walks};
 
+use crate::decl::declare_function;
 use crate::declarations::{check_extern, check_file_object, check_function};
-use crate::names::Names;
 use crate::sizes::Sized;
 use crate::structs::check_struct;
-use crate::walk::Walk;
 use c_ast::{CExtern, CFunction, CObject, CStruct, CUnit, Target};
+use c_scopes::{Names, Signature, Walk};
 use c_text::CFault;
 use iv_words::{Memory, Seq};
+use name_tables::NameTable;
 use std::alloc::Global;
 
-/// The names of file scope behind these structs and externs.
-fn names_behind<'u>(
-    alloc: Global,
-    target: Target,
-    structs: &'u [CStruct],
-    externs: &'u [CExtern],
-) -> Names<'u>
+/// The names of file scope behind these structs.
+fn names_behind<'u>(alloc: Global, target: Target, structs: &'u [CStruct]) -> Names<'u>
     ensures target { result.target ≡ target }
     ensures structs { result.structs.now ≡ structs.now }
     ensures itself { result.itself ≡ None }
-    ensures functions { result.functions.now ≡ [] }
-    ensures view { names_view result ≡ file_scope structs.now (with_externs stop_alone externs.now) [] }
+    ensures values { result.values ≡ [] }
+    ensures view { names_view result ≡ file_scope structs.now stop_alone [] }
 {
     Names {
         target,
         structs,
-        externs,
-        functions: &[],
+        functions: NameTable::new(alloc),
+        objects: NameTable::new(alloc),
         itself: None,
         values: Seq::new(alloc),
     }
@@ -57,7 +52,7 @@ fn check_structs(
     let mut sized = Seq::new(alloc);
     for i in 0..structs.len() {
         let declared = &structs[i];
-        let names = names_behind(alloc, target, &structs[..i], &[]);
+        let names = names_behind(alloc, target, &structs[..i]);
         let size = check_struct(&names, sized.as_slice(), declared, walk);
         sized.push(Sized {
             tag: &declared.name,
@@ -67,19 +62,33 @@ fn check_structs(
     Ok(())
 }
 
-fn check_externs(
-    alloc: Global,
-    target: Target,
-    structs: &[CStruct],
-    externs: &[CExtern],
+/// An extern, which can be called behind it.
+fn check_next_extern<'u>(
+    names: &mut Names<'u>,
+    declared: &'u CExtern,
     walk: &mut Walk,
-)
-    ensures { Walks walk.old walk.new (texts (map extern_text externs.now)) (externs_asks structs.now stop_alone walk.old.at externs.now) }
+) -> Result<(), Memory>
+    ensures walks { Walks walk.old walk.new (extern_text declared.now) (extern_demands (names_view names.old) walk.old.at declared.now) }
+    ensures next { OnOk result (names_view names.new ≡ with_extern (names_view names.old) declared.now) }
+    ensures others { OnOk result (OthersStay names.old names.new) }
 {
-    for i in 0..externs.len() {
-        let names = names_behind(alloc, target, structs, &externs[..i]);
-        check_extern(&names, &externs[i], walk);
+    check_extern(&*names, declared, walk);
+    declare_function(names, &declared.name, Signature::Extern(declared))
+}
+
+fn check_externs<'u>(
+    names: &mut Names<'u>,
+    externs: &'u [CExtern],
+    walk: &mut Walk,
+) -> Result<(), Memory>
+    ensures walks { OnOk result (Walks walk.old walk.new (texts (map extern_text externs.now)) (extern_rows (names_view names.old) walk.old.at externs.now)) }
+    ensures view { OnOk result (names_view names.new ≡ behind_externs (names_view names.old) externs.now) }
+    ensures others { OnOk result (OthersStay names.old names.new) }
+{
+    for declared in externs {
+        check_next_extern(names, declared, walk)?;
     }
+    Ok(())
 }
 
 fn check_objects<'u>(
@@ -87,9 +96,10 @@ fn check_objects<'u>(
     objects: &'u [CObject],
     walk: &mut Walk,
 ) -> Result<(), Memory>
+    requires { names.old.values ≡ [] }
     ensures walks { OnOk result (Walks walk.old walk.new (texts (map file_object_text (map object_of objects.now))) (objects_asks names.old.target (names_view names.old) walk.old.at (map object_of objects.now))) }
     ensures view { OnOk result (names_view names.new ≡ with_objects (names_view names.old) (map object_of objects.now)) }
-    ensures kept { OnOk result (Kept names.old names.new) }
+    ensures others { OnOk result (ButObjects names.old names.new) }
 {
     for object in objects {
         check_file_object(names, object, walk)?;
@@ -97,19 +107,19 @@ fn check_objects<'u>(
     Ok(())
 }
 
-/// A function behind these.
-fn check_behind<'u>(
+/// A function, which can be called behind it.
+fn check_next_function<'u>(
     names: &mut Names<'u>,
-    earlier: &'u [CFunction],
     function: &'u CFunction,
     walk: &mut Walk,
 ) -> Result<(), Memory>
     requires { names.old.itself ≡ None }
-    ensures walks { OnOk result (Walks walk.old walk.new (function_text (function_of function.now)) (function_demands names.old.target (with_signatures (names_view names.old) (with_functions (with_externs stop_alone names.old.externs.now) earlier.now)) walk.old.at (function_of function.now))) }
+    ensures walks { OnOk result (Walks walk.old walk.new (function_text (function_of function.now)) (function_demands names.old.target (names_view names.old) walk.old.at (function_of function.now))) }
+    ensures next { OnOk result (names_view names.new ≡ with_function (names_view names.old) (function_of function.now)) }
     ensures others { OnOk result (OthersStay names.old names.new) }
 {
-    names.functions = earlier;
-    check_function(names, function, walk)
+    check_function(names, function, walk)?;
+    declare_function(names, &function.name, Signature::Function(function))
 }
 
 fn check_functions<'u>(
@@ -117,12 +127,11 @@ fn check_functions<'u>(
     functions: &'u [CFunction],
     walk: &mut Walk,
 ) -> Result<(), Memory>
-    requires itself { names.old.itself ≡ None }
-    requires none { names.old.functions.now ≡ [] }
+    requires { names.old.itself ≡ None }
     ensures { OnOk result (Walks walk.old walk.new (texts (map function_text (map function_of functions.now))) (functions_asks names.old.target (names_view names.old) walk.old.at (map function_of functions.now))) }
 {
-    for i in 0..functions.len() {
-        check_behind(names, &functions[..i], &functions[i], walk)?;
+    for function in functions {
+        check_next_function(names, function, walk)?;
     }
     Ok(())
 }
@@ -140,19 +149,8 @@ fn check_unit(alloc: Global, unit: &CUnit, target: Target, walk: &mut Walk) -> R
 {
     pass_fixed(walk);
     check_structs(alloc, target, unit.structs.as_slice(), walk)?;
-    check_externs(
-        alloc,
-        target,
-        unit.structs.as_slice(),
-        unit.externs.as_slice(),
-        walk,
-    );
-    let mut names = names_behind(
-        alloc,
-        target,
-        unit.structs.as_slice(),
-        unit.externs.as_slice(),
-    );
+    let mut names = names_behind(alloc, target, unit.structs.as_slice());
+    check_externs(&mut names, unit.externs.as_slice(), walk)?;
     check_objects(&mut names, unit.objects.as_slice(), walk)?;
     check_functions(&mut names, unit.functions.as_slice(), walk)
 }

@@ -6,7 +6,7 @@ use Rattle.c_reader.proofs.Results as result
 use Rattle.c_reader.proofs.read.kept.Goals as goal
 
 pub returns-in-Ok-None : goal.returns-in-Ok-None
-returns-in-Ok-None c = (refl, result.kept c.args.target (unit_of c.args.unit) (sym (c.in-Ok-None.ensures c.requires.short) ∙ c.in-Ok-None.field-0-is))
+returns-in-Ok-None c = (refl, result.kept c.args.target (unit_of c.args.unit) (sym (c.in-Ok-None.ensures c.requires) ∙ c.in-Ok-None.field-0-is))
 
 pub returns-in-Ok-Some : goal.returns-in-Ok-Some
-returns-in-Ok-Some c = search_finds (unit_demands c.args.target (unit_of c.args.unit)) c.in-Ok-Some.fault (sym (c.in-Ok-Some.ensures c.requires.short) ∙ c.in-Ok-Some.field-0-is)
+returns-in-Ok-Some c = search_finds (unit_demands c.args.target (unit_of c.args.unit)) c.in-Ok-Some.fault (sym (c.in-Ok-Some.ensures c.requires) ∙ c.in-Ok-Some.field-0-is)

@@ -1,7 +1,7 @@
 use Rattle.std.proofs.Common.{sym}
 use Rattle.c_rules.specs.Depths.{depth}
 use Rattle.c_rules.proofs.BraceRows.{in_is, indent_more}
-use Rattle.c_rules.proofs.Walks.{passed, as_text}
+use Rattle.c_scopes.proofs.Walks.{passed, as_text}
 use Rattle.c_rules.proofs.braces.+pass_indent.Goals as goal
 
 pub returns-in-In : goal.returns-in-In

@@ -5,8 +5,8 @@ use Rattle.c_text.specs.Rules.{NameIsNew, behind}
 use Rattle.c_text.specs.TypeText.{base_text}
 use Rattle.c_text.specs.Scopes.{new_name}
 use Rattle.c_text.specs.ExpressionRules.{base_demands}
-use Rattle.c_rules.specs.Scope.{names_view}
-use Rattle.c_rules.proofs.Walks.{passed, asked_next, as_demands}
+use Rattle.c_scopes.specs.Scope.{names_view}
+use Rattle.c_scopes.proofs.Walks.{passed, asked_next, as_demands}
 use Rattle.c_rules.proofs.decl.check_object.Goals as goal
 
 pub returns : goal.returns

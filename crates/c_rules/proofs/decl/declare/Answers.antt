@@ -1,5 +1,5 @@
 use Rattle.c_rules.proofs.Scopes.{on_ok, pushed_view, pushed_keeps}
-use Rattle.c_rules.specs.declared.names.Entry.{Entry}
+use Rattle.c_scopes.specs.declared.names.Entry.{Entry}
 use Rattle.c_rules.proofs.decl.declare.Goals as goal
 
 pub returns-clause-view : goal.returns-clause-view

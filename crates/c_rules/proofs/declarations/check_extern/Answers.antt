@@ -4,9 +4,9 @@ use Rattle.c_text.specs.Rules.{behind}
 use Rattle.c_text.specs.TypeText.{type_text, gap_text, typed_text}
 use Rattle.c_text.specs.ExpressionRules.{type_demands}
 use Rattle.c_text.specs.UnitRules.{file_name, types_demands}
-use Rattle.c_rules.specs.Scope.{names_view}
+use Rattle.c_scopes.specs.Scope.{names_view}
 use Rattle.c_rules.proofs.Places.{params_begin}
-use Rattle.c_rules.proofs.Walks.{followed, passed, as_demands, behind_both}
+use Rattle.c_scopes.proofs.Walks.{followed, passed, as_demands, behind_both}
 use Rattle.c_rules.proofs.declarations.check_extern.Goals as goal
 
 pub returns : goal.returns

@@ -9,11 +9,11 @@ use Rattle.c_text.specs.StatementRules.{stmts_demands}
 use Rattle.c_text.specs.TypeText.{line, type_text, gap_text, typed_text}
 use Rattle.c_text.specs.ExpressionRules.{type_demands}
 use Rattle.c_text.specs.UnitRules.{file_name, inside, params_demands, with_params}
-use Rattle.c_rules.specs.Scope.{names_view}
+use Rattle.c_scopes.specs.Scope.{names_view}
 use Rattle.c_rules.proofs.BraceRows.{in_is, none_is}
 use Rattle.c_rules.proofs.Places.{function_params, function_body, function_lines}
 use Rattle.c_rules.proofs.Scopes.{kept_both, back}
-use Rattle.c_rules.proofs.Walks.{followed, passed, as_demands, as_text}
+use Rattle.c_scopes.proofs.Walks.{followed, passed, as_demands, as_text}
 use Rattle.c_rules.proofs.declarations.check_function.Goals as goal
 
 pub returns-clause-walks : goal.returns-clause-walks

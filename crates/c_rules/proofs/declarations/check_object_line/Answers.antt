@@ -7,9 +7,9 @@ use Rattle.c_text.specs.TypeText.{base_text}
 use Rattle.c_text.specs.Spelling.{base_const_text}
 use Rattle.c_text.specs.ExpressionRules.{base_demands, init_demands}
 use Rattle.c_text.specs.UnitRules.{file_name}
-use Rattle.c_rules.specs.Scope.{names_view}
+use Rattle.c_scopes.specs.Scope.{names_view}
 use Rattle.c_rules.proofs.Places.{object_name, object_init}
-use Rattle.c_rules.proofs.Walks.{followed, passed, as_demands}
+use Rattle.c_scopes.proofs.Walks.{followed, passed, as_demands}
 use Rattle.c_rules.proofs.declarations.check_object_line.Goals as goal
 
 pub returns : goal.returns

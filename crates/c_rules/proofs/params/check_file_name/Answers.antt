@@ -1,5 +1,5 @@
 use Rattle.c_text.specs.Rules.{NameIsOfFile, NameIsNew}
-use Rattle.c_rules.proofs.Walks.{passed, asked_here, asked_again}
+use Rattle.c_scopes.proofs.Walks.{passed, asked_here, asked_again}
 use Rattle.c_rules.proofs.params.check_file_name.Goals as goal
 
 pub returns : goal.returns

@@ -1,12 +1,12 @@
 use Rattle.std.proofs.Common.{◌+◌, ◌∙◌, refl, true, sym, ap, subst, drop}
 use Rattle.c_text.specs.Spelling.{param_text}
 use Rattle.c_text.specs.UnitRules.{with_params}
-use Rattle.c_rules.specs.Scope.{names_view}
+use Rattle.c_scopes.specs.Scope.{names_view}
 use Rattle.std.proofs.lemmas.List.{drop_all}
-use Rattle.c_rules.proofs.Rows.{Listing, listing_begins, listing_on, all_listed, next_is}
+use Rattle.c_scopes.proofs.Rows.{Listing, listing_begins, listing_on, all_listed, next_is}
 use Rattle.c_rules.proofs.ParamRows.{param_item, with_param, params_are}
 use Rattle.c_rules.proofs.Scopes.{kept_both, stays}
-use Rattle.c_rules.proofs.Walks.{as_demands}
+use Rattle.c_scopes.proofs.Walks.{as_demands}
 use Rattle.c_rules.proofs.params.check_listed_params.Goals as goal
 
 pub loop-param-init : goal.loop-param-init

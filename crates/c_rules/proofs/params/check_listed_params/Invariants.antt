@@ -2,8 +2,8 @@ use Rattle.std.proofs.Common.{◌≡◌, drop}
 use Rattle.c_text.specs.Spelling.{param_text}
 use Rattle.c_text.specs.UnitRules.{with_params}
 use Rattle.c_rules.specs.Kept.{Kept}
-use Rattle.c_rules.specs.Scope.{names_view}
-use Rattle.c_rules.proofs.Rows.{Listing}
+use Rattle.c_scopes.specs.Scope.{names_view}
+use Rattle.c_scopes.proofs.Rows.{Listing}
 use Rattle.c_rules.proofs.ParamRows.{param_item, with_param}
 use Rattle.c_rules.proofs.params.check_listed_params.Given as goal
 

@@ -1,8 +1,8 @@
 use Rattle.c_text.specs.TypeText.{type_text}
-use Rattle.c_rules.specs.Scope.{names_view}
-use Rattle.c_rules.proofs.Rows.{listing_begins, listing_on, all_listed}
+use Rattle.c_scopes.specs.Scope.{names_view}
+use Rattle.c_scopes.proofs.Rows.{listing_begins, listing_on, all_listed}
 use Rattle.c_rules.proofs.ParamRows.{type_item, same, types_are}
-use Rattle.c_rules.proofs.Walks.{as_demands}
+use Rattle.c_scopes.proofs.Walks.{as_demands}
 use Rattle.c_rules.proofs.params.check_listed_types.Goals as goal
 
 pub loop-ty-init : goal.loop-ty-init

@@ -1,7 +1,7 @@
 use Rattle.std.proofs.Common.{drop}
 use Rattle.c_text.specs.TypeText.{type_text}
-use Rattle.c_rules.specs.Scope.{names_view}
-use Rattle.c_rules.proofs.Rows.{Listing}
+use Rattle.c_scopes.specs.Scope.{names_view}
+use Rattle.c_scopes.proofs.Rows.{Listing}
 use Rattle.c_rules.proofs.ParamRows.{type_item, same}
 use Rattle.c_rules.proofs.params.check_listed_types.Given as goal
 

@@ -2,10 +2,10 @@ use Rattle.c_text.specs.Rules.{behind}
 use Rattle.c_text.specs.Spelling.{param_text}
 use Rattle.c_text.specs.UnitRules.{params_demands}
 use Rattle.std.specs.Prelude.{codes}
-use Rattle.c_rules.specs.Scope.{names_view}
+use Rattle.c_scopes.specs.Scope.{names_view}
 use Rattle.c_rules.proofs.ParamRows.{none_listed, some_listed, no_params, with_none}
 use Rattle.c_rules.proofs.Scopes.{stays}
-use Rattle.c_rules.proofs.Walks.{followed, passed, as_demands, as_text}
+use Rattle.c_scopes.proofs.Walks.{followed, passed, as_demands, as_text}
 use Rattle.c_rules.proofs.params.check_params.Goals as goal
 
 pub returns-then-params-eq0-clause-walks : goal.returns-then-params-eq0-clause-walks

@@ -4,8 +4,8 @@ use Rattle.c_text.specs.Rules.{behind}
 use Rattle.c_text.specs.TypeText.{type_text, gap_text}
 use Rattle.c_text.specs.ExpressionRules.{type_demands}
 use Rattle.c_text.specs.UnitRules.{file_name}
-use Rattle.c_rules.specs.Scope.{names_view}
-use Rattle.c_rules.proofs.Walks.{followed, passed, as_demands}
+use Rattle.c_scopes.specs.Scope.{names_view}
+use Rattle.c_scopes.proofs.Walks.{followed, passed, as_demands}
 use Rattle.c_rules.proofs.params.check_typed.Goals as goal
 
 pub returns : goal.returns

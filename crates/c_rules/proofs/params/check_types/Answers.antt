@@ -2,9 +2,9 @@ use Rattle.c_text.specs.TypeText.{type_text}
 use Rattle.c_text.specs.Rules.{behind}
 use Rattle.c_text.specs.UnitRules.{types_demands}
 use Rattle.std.specs.Prelude.{codes}
-use Rattle.c_rules.specs.Scope.{names_view}
+use Rattle.c_scopes.specs.Scope.{names_view}
 use Rattle.c_rules.proofs.ParamRows.{none_listed, some_listed, no_types}
-use Rattle.c_rules.proofs.Walks.{followed, passed, as_demands, as_text}
+use Rattle.c_scopes.proofs.Walks.{followed, passed, as_demands, as_text}
 use Rattle.c_rules.proofs.params.check_types.Goals as goal
 
 pub returns-then-types-eq0 : goal.returns-then-types-eq0

@@ -11,14 +11,14 @@ use Rattle.std.specs.Prelude.{codes}
 use Rattle.c_text.specs.TypeText.{line}
 use Rattle.c_rules.specs.Depths.{depth}
 use Rattle.c_rules.specs.Forms.{form_text}
-use Rattle.c_rules.specs.Scope.{names_view}
-use Rattle.c_rules.specs.Views.{type_view}
-use Rattle.c_rules.specs.Walks.{Walks}
+use Rattle.c_scopes.specs.Scope.{names_view}
+use Rattle.c_scopes.specs.Views.{type_view}
+use Rattle.c_scopes.specs.Walks.{Walks}
 use Rattle.c_rules.proofs.FormLines.{form_is, else_begins}
-use Rattle.c_rules.proofs.Rows.{Going, going_on, all_gone}
+use Rattle.c_scopes.proofs.Rows.{Going, going_on, all_gone}
 use Rattle.c_rules.proofs.Scopes.{on_ok, kept_both}
 use Rattle.c_rules.proofs.StmtRows.{text, item, next, stmts_are, texts_are}
-use Rattle.c_rules.proofs.Walks.{followed, passed, as_demands, as_text}
+use Rattle.c_scopes.proofs.Walks.{followed, passed, as_demands, as_text}
 use Rattle.c_rules.proofs.stmt.+stmts.Goals as goal
 
 pub check_form-returns-in-None-clause-walks : goal.check_form-returns-in-None-clause-walks

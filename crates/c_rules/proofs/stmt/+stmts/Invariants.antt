@@ -1,9 +1,9 @@
 use Rattle.std.proofs.Common.{drop}
 use Rattle.c_rules.specs.Depths.{depth}
 use Rattle.c_rules.specs.Kept.{Kept}
-use Rattle.c_rules.specs.Scope.{names_view}
-use Rattle.c_rules.specs.Views.{type_view}
-use Rattle.c_rules.proofs.Rows.{Going}
+use Rattle.c_scopes.specs.Scope.{names_view}
+use Rattle.c_scopes.specs.Views.{type_view}
+use Rattle.c_scopes.proofs.Rows.{Going}
 use Rattle.c_rules.proofs.StmtRows.{text, item, next}
 use Rattle.c_rules.proofs.stmt.+stmts.Given as goal
 

@@ -4,8 +4,8 @@ use Rattle.c_ast.specs.View.{expr_of, place_of}
 use Rattle.c_text.specs.Rules.{AssignedIsScalar}
 use Rattle.c_text.specs.ExpressionRules as rules
 use Rattle.c_text.specs.StatementRules.{assigned_demands}
-use Rattle.c_rules.specs.Scope.{names_view}
-use Rattle.c_rules.proofs.Walks.{followed, passed, asked_first}
+use Rattle.c_scopes.specs.Scope.{names_view}
+use Rattle.c_scopes.proofs.Walks.{followed, passed, asked_first}
 use Rattle.c_rules.proofs.stmt.check_assign.Goals as goal
 
 pub returns : goal.returns

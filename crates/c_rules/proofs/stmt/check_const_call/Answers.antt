@@ -1,8 +1,8 @@
 use Rattle.std.specs.Prelude.{Some}
 use Rattle.c_ast.specs.View.{call_of}
 use Rattle.c_text.specs.ExpressionRules.{call_demands}
-use Rattle.c_rules.specs.Scope.{names_view}
-use Rattle.c_rules.proofs.Walks.{followed, passed}
+use Rattle.c_scopes.specs.Scope.{names_view}
+use Rattle.c_scopes.proofs.Walks.{followed, passed}
 use Rattle.c_rules.proofs.stmt.check_const_call.Goals as goal
 
 pub returns : goal.returns

@@ -1,7 +1,7 @@
 use Rattle.c_ast.specs.View.{expr_of}
 use Rattle.c_text.specs.ExpressionRules.{given_demands}
-use Rattle.c_rules.specs.Scope.{names_view}
-use Rattle.c_rules.proofs.Walks.{followed, passed}
+use Rattle.c_scopes.specs.Scope.{names_view}
+use Rattle.c_scopes.proofs.Walks.{followed, passed}
 use Rattle.c_rules.proofs.stmt.check_const_value.Goals as goal
 
 pub returns : goal.returns

@@ -1,8 +1,8 @@
 use Rattle.c_ast.specs.View.{init_of}
 use Rattle.c_ast.specs.Structs.{tree}
 use Rattle.c_text.specs.ExpressionRules.{init_demands}
-use Rattle.c_rules.specs.Scope.{names_view}
-use Rattle.c_rules.proofs.Walks.{followed}
+use Rattle.c_scopes.specs.Scope.{names_view}
+use Rattle.c_scopes.proofs.Walks.{followed}
 use Rattle.c_rules.proofs.stmt.check_first_value.Goals as goal
 
 pub returns-in-Some : goal.returns-in-Some

@@ -1,8 +1,8 @@
 use Rattle.std.specs.Option.{option_map}
 use Rattle.c_ast.specs.View.{init_of}
 use Rattle.c_text.specs.StatementRules.{first_value_demands}
-use Rattle.c_rules.specs.Scope.{names_view}
-use Rattle.c_rules.proofs.Walks.{followed, passed}
+use Rattle.c_scopes.specs.Scope.{names_view}
+use Rattle.c_scopes.proofs.Walks.{followed, passed}
 use Rattle.c_rules.proofs.stmt.check_local.Goals as goal
 
 pub returns : goal.returns

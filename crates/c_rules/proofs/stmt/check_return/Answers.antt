@@ -1,9 +1,9 @@
 use Rattle.c_ast.specs.View.{expr_of}
 use Rattle.c_text.specs.Rules.{ReturnMatches}
 use Rattle.c_text.specs.ExpressionRules.{given_demands}
-use Rattle.c_rules.specs.Scope.{names_view}
-use Rattle.c_rules.specs.Views.{type_view}
-use Rattle.c_rules.proofs.Walks.{followed, passed, asked_here}
+use Rattle.c_scopes.specs.Scope.{names_view}
+use Rattle.c_scopes.specs.Views.{type_view}
+use Rattle.c_scopes.proofs.Walks.{followed, passed, asked_here}
 use Rattle.c_rules.proofs.stmt.check_return.Goals as goal
 
 pub returns-in-None : goal.returns-in-None

@@ -7,8 +7,8 @@ use Rattle.c_text.specs.Rules.{LengthIsAllowed, MemberEndsInTime, MemberIsNew, a
 use Rattle.c_text.specs.TypeText.{base_text}
 use Rattle.c_text.specs.ExpressionRules.{base_demands}
 use Rattle.c_text.specs.UnitRules.{is_allowed_length}
-use Rattle.c_rules.specs.Scope.{names_view}
-use Rattle.c_rules.proofs.Walks.{passed, asked_first, asked_next, as_demands}
+use Rattle.c_scopes.specs.Scope.{names_view}
+use Rattle.c_scopes.proofs.Walks.{passed, asked_first, asked_next, as_demands}
 use Rattle.c_rules.proofs.structs.check_declared.Goals as goal
 
 pub returns : goal.returns

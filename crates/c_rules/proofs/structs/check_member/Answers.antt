@@ -1,6 +1,6 @@
 use Rattle.c_rules.specs.Members.{member_asks}
-use Rattle.c_rules.specs.Scope.{names_view}
-use Rattle.c_rules.proofs.Walks.{followed, passed}
+use Rattle.c_scopes.specs.Scope.{names_view}
+use Rattle.c_scopes.proofs.Walks.{followed, passed}
 use Rattle.c_rules.proofs.structs.check_member.Goals as goal
 
 pub returns : goal.returns

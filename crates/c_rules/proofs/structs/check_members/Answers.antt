@@ -7,13 +7,13 @@ use Rattle.c_ast.specs.declared.unit.CMember.{CMember}
 use Rattle.c_text.specs.Rules.{behind}
 use Rattle.c_text.specs.Spelling.{member_text}
 use Rattle.type_trees.specs.Layouts.{align_row, end_row}
-use Rattle.c_rules.specs.Scope.{names_view}
+use Rattle.c_scopes.specs.Scope.{names_view}
 use Rattle.c_rules.specs.Sizes.{capped, tree_size, sized_times, base_size}
-use Rattle.c_rules.specs.Walks.{Walks}
-use Rattle.c_rules.proofs.Rows.{Going, going_on, all_gone}
+use Rattle.c_scopes.specs.Walks.{Walks}
+use Rattle.c_scopes.proofs.Rows.{Going, going_on, all_gone}
 use Rattle.c_rules.proofs.SizeRows.{member_is}
 use Rattle.c_rules.proofs.MemberRows.{item, next, members_are, asks_are, step_end, step_align, struct_size, taken}
-use Rattle.c_rules.proofs.Walks.{as_demands}
+use Rattle.c_scopes.proofs.Walks.{as_demands}
 use Rattle.c_rules.proofs.structs.check_members.Goals as goal
 
 pub loop-i-init : goal.loop-i-init

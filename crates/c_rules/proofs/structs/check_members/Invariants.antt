@@ -4,7 +4,7 @@ use Rattle.c_ast.specs.Structs.{row_of, table}
 use Rattle.c_text.specs.Spelling.{member_text}
 use Rattle.type_trees.specs.Layouts.{align_row, end_row}
 use Rattle.c_rules.specs.Sizes.{capped}
-use Rattle.c_rules.proofs.Rows.{Going}
+use Rattle.c_scopes.proofs.Rows.{Going}
 use Rattle.c_rules.proofs.MemberRows.{item, next}
 use Rattle.c_rules.proofs.structs.check_members.Given as goal
 

@@ -1,7 +1,7 @@
 use Rattle.std.proofs.Common.{[]}
 use Rattle.c_text.specs.Rules.{TagIsNew}
 use Rattle.c_text.specs.UnitRules.{members_demands}
-use Rattle.c_rules.proofs.Walks.{followed, passed, asked_next}
+use Rattle.c_scopes.proofs.Walks.{followed, passed, asked_next}
 use Rattle.c_rules.proofs.structs.check_struct.Goals as goal
 
 pub returns-clause-walks : goal.returns-clause-walks

@@ -1,4 +1,4 @@
-use Rattle.c_rules.proofs.Walks.{passed}
+use Rattle.c_scopes.proofs.Walks.{passed}
 use Rattle.c_rules.proofs.structs.pass_length.Goals as goal
 
 pub returns-in-Some : goal.returns-in-Some

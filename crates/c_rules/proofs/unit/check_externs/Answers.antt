@@ -1,29 +1,34 @@
-use Rattle.std.proofs.Common.{◌+◌, sym, subst, drop, take, ℕ}
+use Rattle.std.proofs.Common.{◌+◌, ◌∙◌, refl, ap, sym, subst, drop, ℕ}
+use Rattle.std.proofs.lemmas.List.{drop_all}
 use Rattle.c_ast.specs.declared.unit.CExtern.{CExtern}
 use Rattle.c_text.specs.Spelling.{extern_text}
-use Rattle.c_text.specs.UnitRules.{extern_demands}
-use Rattle.c_rules.specs.Scope.{stop_alone, with_externs}
-use Rattle.c_rules.specs.Walks.{Walks}
-use Rattle.c_rules.proofs.Rows.{Going, going_on, all_gone}
-use Rattle.c_rules.proofs.ScopeLists.{externs_more}
-use Rattle.c_rules.proofs.Units.{extern_item, extern_next, externs_row}
-use Rattle.c_rules.proofs.Walks.{as_demands}
+use Rattle.c_scopes.specs.Scope.{names_view}
+use Rattle.c_rules.specs.UnitRows.{behind_externs, with_extern}
+use Rattle.c_scopes.proofs.Rows.{Going, going_on, all_gone, next_is}
+use Rattle.c_rules.proofs.Units.{extern_asked, asked_of_externs, others_stay}
+use Rattle.c_scopes.proofs.Walks.{as_demands}
 use Rattle.c_rules.proofs.unit.check_externs.Goals as goal
 
-pub loop-i-init : goal.loop-i-init
-loop-i-init c = λ w rest. rest
+pub loop-declared-init : goal.loop-declared-init
+loop-declared-init c = record { going = λ w rest. rest; view = refl; others = refl }
 
-pub loop-i-preserved : goal.loop-i-preserved
-loop-i-preserved c =
-    let x : CExtern = c.index-externs-i.result in
-    let i : ℕ = c.loop-i.i in
+pub loop-declared-preserved : goal.loop-declared-preserved
+loop-declared-preserved c =
+    let x : CExtern = c.declared-item.result in
+    let i : ℕ = c.loop-declared.declared-index in
     let xs = c.args.externs.now in
-    let one : Walks c.loop-i.walk c.check_extern.new.walk (extern_text x) (extern_item c.args.structs.now (with_externs stop_alone (take i xs)) c.loop-i.walk.at x) =
-    subst (λ n. Walks c.loop-i.walk c.check_extern.new.walk (extern_text x) (extern_demands n c.loop-i.walk.at x)) c.names_behind-names.ensures.view c.check_extern.ensures in
-    subst (λ s. Going extern_text (extern_item c.args.structs.now) extern_next c.args.walk.now c.check_extern.new.walk stop_alone s xs (drop (i + 1) xs)) (sym (externs_more stop_alone xs i x c.loop-i-test.true c.index-externs-i.is))
-    (going_on extern_text (extern_item c.args.structs.now) extern_next c.args.walk.now stop_alone (with_externs stop_alone (take i xs)) xs i x c.loop-i-test.true c.index-externs-i.is c.loop-i.invariant one)
+    record {
+      going = subst (λ s. Going extern_text extern_asked with_extern c.args.walk.now c.check_next_extern.new.walk (names_view c.args.names.now) s xs (drop (i + 1) xs)) (sym c.in_ok-check_next_extern.ensures.next)
+          (going_on extern_text extern_asked with_extern c.args.walk.now (names_view c.args.names.now) (names_view c.loop-declared.names) xs i x c.loop-declared-test.true c.declared-item.is c.loop-declared.invariant.going c.check_next_extern.ensures.walks);
+      view = ap (λ s. behind_externs s (drop (i + 1) xs)) c.in_ok-check_next_extern.ensures.next
+          ∙ ap (λ l. behind_externs (names_view c.loop-declared.names) l) (sym (next_is xs i x c.loop-declared-test.true c.declared-item.is)) ∙ c.loop-declared.invariant.view;
+      others = others_stay c.args.names.now c.loop-declared.names c.check_next_extern.new.names c.loop-declared.invariant.others c.in_ok-check_next_extern.ensures.others;
+    }
 
-pub returns : goal.returns
-returns c =
-    as_demands (externs_row c.args.structs.now stop_alone c.args.walk.now.at c.args.externs.now)
-    (all_gone extern_text (extern_item c.args.structs.now) extern_next stop_alone (with_externs stop_alone (take c.loop-i.i c.args.externs.now)) c.args.externs.now c.loop-i.i c.loop-i-test.false c.loop-i.invariant)
+pub returns-clause-walks : goal.returns-clause-walks
+returns-clause-walks c =
+    as_demands (asked_of_externs (names_view c.args.names.now) c.args.walk.now.at c.args.externs.now)
+    (all_gone extern_text extern_asked with_extern (names_view c.args.names.now) (names_view c.loop-declared.names) c.args.externs.now c.loop-declared.declared-index c.loop-declared-test.false c.loop-declared.invariant.going)
+
+pub returns-clause-view : goal.returns-clause-view
+returns-clause-view c = sym (ap (λ l. behind_externs (names_view c.loop-declared.names) l) (drop_all c.loop-declared.declared-index c.args.externs.now c.loop-declared-test.false)) ∙ c.loop-declared.invariant.view

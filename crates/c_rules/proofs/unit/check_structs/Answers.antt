@@ -3,12 +3,12 @@ use Rattle.c_ast.specs.declared.unit.CStruct.{CStruct}
 use Rattle.c_ast.specs.Structs.{row_of, table}
 use Rattle.c_text.specs.Spelling.{struct_text}
 use Rattle.c_rules.specs.Sizes.{row_size, sized_view, sizes_of}
-use Rattle.c_rules.specs.Walks.{Walks}
+use Rattle.c_scopes.specs.Walks.{Walks}
 use Rattle.c_rules.proofs.MemberRows.{taken}
-use Rattle.c_rules.proofs.Rows.{Going, going_on, all_gone}
+use Rattle.c_scopes.proofs.Rows.{Going, going_on, all_gone}
 use Rattle.c_rules.proofs.SizeRows.{sized_more}
 use Rattle.c_rules.proofs.Units.{struct_item, struct_next, structs_row}
-use Rattle.c_rules.proofs.Walks.{as_demands}
+use Rattle.c_scopes.proofs.Walks.{as_demands}
 use Rattle.c_rules.proofs.unit.check_structs.Goals as goal
 
 pub check_struct-size-requires : goal.check_struct-size-requires

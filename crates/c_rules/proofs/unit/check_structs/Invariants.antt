@@ -1,7 +1,7 @@
 use Rattle.std.proofs.Common.{◌≡◌, [], drop, take}
 use Rattle.c_text.specs.Spelling.{struct_text}
 use Rattle.c_rules.specs.Sizes.{sized_view, sizes_of}
-use Rattle.c_rules.proofs.Rows.{Going}
+use Rattle.c_scopes.proofs.Rows.{Going}
 use Rattle.c_rules.proofs.Units.{struct_item, struct_next}
 use Rattle.c_rules.proofs.unit.check_structs.Given as goal
 

@@ -1,0 +1,3 @@
+pub mod Args
+pub mod Gates
+pub mod SlotRows

@@ -1,6 +1,0 @@
-use Rattle.c_text.specs.Rules.{GivenIsWanted}
-use Rattle.c_rules.proofs.Walks.{asked_first}
-use Rattle.c_rules.proofs.call.check_given.Goals as goal
-
-pub returns : goal.returns
-returns c = asked_first GivenIsWanted c.check_expr-value.ensures.walks (rw (c.may_be_given.ensures, c.check_expr-value.ensures.ty) at c.ask.ensures)

@@ -1,5 +1,0 @@
-use Rattle.c_rules.proofs.Walks.{unasked}
-use Rattle.c_rules.proofs.init.pass_expr.Goals as goal
-
-pub returns : goal.returns
-returns c = unasked c.check_expr.ensures.walks

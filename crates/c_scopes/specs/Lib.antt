@@ -1,0 +1,6 @@
+pub mod Joined
+pub mod Walks
+pub mod Views
+pub mod Shapes
+pub mod Scope
+pub mod Separated

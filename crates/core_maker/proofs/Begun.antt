@@ -4,8 +4,7 @@ use Rattle.std.proofs.lemmas.Bool.Decides.{nat_tests}
 use Rattle.iv_words.specs.declared.Span.{Span}
 use Rattle.ivory_tree.specs.Syntax as syntax
 use Rattle.ivory_tree.specs.Syntax.{Word, ExprSyntax}
-use Rattle.ivory_tree.specs.Places.{expr_span}
-use Rattle.ivory_tree.specs.View.{LinkSyntax, StepSyntax, linked, chain_from, stepped, postfix_from, expr_of, link_of, step_of}
+use Rattle.ivory_tree.specs.View.{LinkSyntax, StepSyntax, chain_from, postfix_from, expr_of, link_of, step_of}
 use Rattle.ivory_tree.specs.declared.expr.Expr.{Expr}
 use Rattle.ivory_tree.specs.declared.expr.ExprKind.TheVariants as kind
 use Rattle.ivory_tree.specs.declared.expr.Link.{Link}
@@ -140,9 +139,10 @@ chain_given env w n e first links {g} {done} {o} {lead} {left} {k} h some same d
     f ∙ ap (λ (v : ValueType). first_of e.span (expr_of g) (expr_from n (core_of env v (expr_of g)))) l ∙ ap (λ (b : Expr). chain_first env w n e.span (expr_of b) ls) same in
     let same_number : k ≡ chain_number env w n (expr_of first) ls = a ∙ ap (λ (v : ValueType). expr_after n (core_of env v (expr_of g))) l ∙ ap (λ (b : Expr). chain_number env w n (expr_of b) ls) same in
     let same_done : done ≡ settled (expr_of first) = d ∙ ap (λ (b : Expr). settled (expr_of b)) same in
-    let same_own : o ≡ own env (expr_of first) = t ∙ ap (λ (b : Expr). own env (expr_of b)) same in
-    (ap₂ (λ (b : Bool) (v : ValueType). with_links env w b v k left ls) same_done same_own ∙ ap₂ (λ (m : ℕ) (x : Form). with_links env w (settled (expr_of first)) (own env (expr_of first)) m x ls) same_number same_left ∙ chain_then env w n e first links h some,
-    ap₂ (λ (b : Bool) (v : ValueType). after_links env w b v k ls) same_done same_own ∙ ap (λ (m : ℕ). after_links env w (settled (expr_of first)) (own env (expr_of first)) m ls) same_number ∙ chain_then_after env w n e first links h some)
+    let same_own : o ≡ own env (expr_of first) = t ∙ ap (λ (b : Expr). own env (expr_of b)) same in (
+      ap₂ (λ (b : Bool) (v : ValueType). with_links env w b v k left ls) same_done same_own ∙ ap₂ (λ (m : ℕ) (x : Form). with_links env w (settled (expr_of first)) (own env (expr_of first)) m x ls) same_number same_left ∙ chain_then env w n e first links h some,
+      ap₂ (λ (b : Bool) (v : ValueType). after_links env w b v k ls) same_done same_own ∙ ap (λ (m : ℕ). after_links env w (settled (expr_of first)) (own env (expr_of first)) m ls) same_number ∙ chain_then_after env w n e first links h some,
+    )
 
 pub postfix_given : (env : Env) (w : ValueType) (n : ℕ) (e base : Expr) (steps : List Step) {g : Expr} {o : ValueType} {left : Form} {k : ℕ} → e.kind ≡ kind.Postfix base steps → has_steps (map step_of steps) ≡ true → g ≡ base
     → o ≡ own env (expr_of g) → left ≡ first_of e.span (expr_of g) (expr_from n (core_of env w (expr_of g))) → k ≡ expr_after n (core_of env w (expr_of g))
@@ -151,9 +151,10 @@ postfix_given env w n e base steps {g} {o} {left} {k} h some same t f a =
     let ts = map step_of steps in
     let same_left : based left ≡ postfix_base env w n e.span (expr_of base) = ap based f ∙ ap (λ (b : Expr). postfix_base env w n e.span (expr_of b)) same in
     let same_number : k ≡ expr_after n (core_of env w (expr_of base)) = a ∙ ap (λ (b : Expr). expr_after n (core_of env w (expr_of b))) same in
-    let same_own : o ≡ own env (expr_of base) = t ∙ ap (λ (b : Expr). own env (expr_of b)) same in
-    (ap (λ (v : ValueType). form_by env ts v k (based left)) same_own ∙ ap₂ (λ (m : ℕ) (x : ExprCore). form_by env ts (own env (expr_of base)) m x) same_number same_left ∙ postfix_then env w n e base steps h some,
-    ap₂ (λ (v : ValueType) (m : ℕ). after_steps env v m ts) same_own same_number ∙ postfix_then_after env w n e base steps h some)
+    let same_own : o ≡ own env (expr_of base) = t ∙ ap (λ (b : Expr). own env (expr_of b)) same in (
+      ap (λ (v : ValueType). form_by env ts v k (based left)) same_own ∙ ap₂ (λ (m : ℕ) (x : ExprCore). form_by env ts (own env (expr_of base)) m x) same_number same_left ∙ postfix_then env w n e base steps h some,
+      ap₂ (λ (v : ValueType) (m : ℕ). after_steps env v m ts) same_own same_number ∙ postfix_then_after env w n e base steps h some,
+    )
 
 pub variable_given : (env : Env) (w : ValueType) (n : ℕ) (e : Expr) (name : Word) {t : ValueType} → e.kind ≡ kind.Var name → t ≡ own env (expr_of e)
     → alone (name_core t (local_number env name) (number_or (area_number env.earlier name))) ≡ opened (expr_of e) (expr_from n (core_of env w (expr_of e)))

@@ -1,9 +1,9 @@
 -- What stands before the rest of the links is wanted as before the link, unless something is settled.
-use Rattle.std.proofs.Common.{◌≡◌, List, [], ◌∷◌, Bool, true, false, cond, ◌||◌, refl, ap, sym, ◌∙◌}
+use Rattle.std.proofs.Common.{◌≡◌, List, [], ◌∷◌, Bool, true, false, cond, ◌||◌, refl, ap, ◌∙◌}
 use Rattle.ivory_tree.specs.View.{LinkSyntax}
 use Rattle.area_types.specs.Syntax as types
 use Rattle.area_types.specs.Syntax.{ValueType}
-use Rattle.source_types.specs.Operators.{is_logic, is_comparison, gives_truth}
+use Rattle.source_types.specs.Operators.{is_logic, is_comparison}
 use Rattle.source_types.specs.Settled.{settled}
 use Rattle.typing_rules.specs.Environments.{Env}
 use Rattle.typing_rules.specs.ExpressionCores.{own}

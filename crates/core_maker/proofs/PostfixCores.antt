@@ -20,7 +20,7 @@ use Rattle.core_maker.specs.Numbered.{expr_from, expr_after}
 use Rattle.ivory_tree.specs.Places.{expr_span}
 use Rattle.ivory_tree.specs.declared.BinOp.{BinOp}
 use Rattle.core_maker.specs.Opened.{Form, AfterLink, AfterStep, closed, based, alone, opened, kept, first_of}
-use Rattle.core_maker.specs.Postfixes.{step_own, index_core, with_step, after_step, with_steps, after_steps, steps_own, postfix_base, postfix_form, postfix_after, form_by}
+use Rattle.core_maker.specs.Postfixes.{step_own, index_core, with_step, after_step, after_steps, postfix_base, postfix_form, postfix_after, form_by}
 use Rattle.core_maker.proofs.Parts.{part_from, whole_after}
 
 alone_based : (b : Bool) (c : ExprCore) → c ≡ based (kept b (alone c) c)

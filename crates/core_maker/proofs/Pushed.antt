@@ -1,8 +1,8 @@
 -- One more link or step stands outermost.
-use Rattle.std.proofs.Common.{◌≡◌, List, [], ◌∷◌, ◌++◌, map, refl, ap, ◌∙◌}
+use Rattle.std.proofs.Common.{◌≡◌, List, [], ◌∷◌, ◌++◌, map, refl}
 use Rattle.core_tree.specs.Syntax as core
 use Rattle.core_tree.specs.Syntax.{ExprCore}
-use Rattle.core_tree.specs.View.{LinkCore, StepCore, linked, stepped, part_of, link_of, step_of}
+use Rattle.core_tree.specs.View.{linked, stepped, part_of, link_of, step_of}
 use Rattle.core_tree.specs.declared.CoreLink.{CoreLink}
 use Rattle.core_tree.specs.declared.CoreStep.{CoreStep}
 

@@ -1,5 +1,5 @@
 -- What the code knows at a place, as the typing sees it. It agrees with what the rules see there: each name in scope has a type and a number.
-use Rattle.std.specs.Prelude.{◌≡◌, ℕ, List, [], ◌∷◌, map, Option, option_map}
+use Rattle.std.specs.Prelude.{◌≡◌, ℕ, List, [], ◌∷◌, map, option_map}
 use Rattle.area_types.specs.View.{type_of}
 use Rattle.typing_rules.specs.Environments as typing
 use Rattle.typing_rules.specs.Contexts as typing_view

@@ -19,15 +19,15 @@ ghost use Rattle.core_maker.specs.Places.{env_of, Agrees};
 ghost use Rattle.core_maker.specs.Postfixes as parts;
 
 use crate::before::{Before, after_link, before_links};
+use crate::joining::{Opened, PostfixParts, base, close, keep, push_link, push_step};
 use crate::kinds::{
     cast_checks, first_token, index_checks, name_bytes, operator_checks, prefix_checks, set_checks,
 };
 use crate::leaves::{
-    Arm, OldBits, beside, cond_node, core_type, has_links, has_steps, literal, outcome, set_node, step_type,
-    truth, variable,
+    Arm, OldBits, beside, cond_node, core_type, has_links, has_steps, literal, outcome, set_node,
+    step_type, truth, variable,
 };
 use crate::nodes;
-use crate::joining::{Opened, PostfixParts, base, close, keep, push_link, push_step};
 use crate::operators::result_type;
 use crate::place::{Place, own};
 use crate::types::{
@@ -78,7 +78,16 @@ fn open_core(
         ExprKind::Var(name) => variable(alloc, place, own(place, e), name),
         ExprKind::Cast(kind, operand) => cast(alloc, place, e.span, *kind, operand, next),
         ExprKind::ToIx(length, operand) => {
-            to_index(alloc, place, want, own(place, e), e.span, *length, operand, next)
+            to_index(
+                alloc,
+                place,
+                want,
+                own(place, e),
+                e.span,
+                *length,
+                operand,
+                next,
+            )
         }
         ExprKind::WrapIx(_, operand) => {
             wrap_index(alloc, place, want, own(place, e), operand, next)
@@ -87,10 +96,28 @@ fn open_core(
         ExprKind::Raw(operand) => raw(alloc, place, want, own(place, e), operand, next),
         ExprKind::Set(operand, name, value) => {
             let old = set_old(alloc, place, want, e.span, operand, name, next)?;
-            set_new(alloc, place, own(place, e), own(place, operand), name, old, value, next)
+            set_new(
+                alloc,
+                place,
+                own(place, e),
+                own(place, operand),
+                name,
+                old,
+                value,
+                next,
+            )
         }
         ExprKind::Prefix(op, operand) => {
-            prefix(alloc, place, want, own(place, e), e.span, *op, operand, next)
+            prefix(
+                alloc,
+                place,
+                want,
+                own(place, e),
+                e.span,
+                *op,
+                operand,
+                next,
+            )
         }
         ExprKind::Chain(first, links) => {
             let first = first.get();
@@ -296,7 +323,13 @@ fn to_index(
     ensures form { IfOk result (λ f. form_of f ≡ alone (expr_from next.old (core_of (env_of place.now) (type_at want.entry) (syntax.ToIndex span length (expr_of operand.now))))) }
     ensures after { OnOk result (next.new ≡ expr_after next.old (core_of (env_of place.now) (type_at want.entry) (syntax.ToIndex span length (expr_of operand.now)))) }
 {
-    let checks = index_checks(alloc, length, own(place, operand), first_token(span, 4), next)?;
+    let checks = index_checks(
+        alloc,
+        length,
+        own(place, operand),
+        first_token(span, 4),
+        next,
+    )?;
     let inner = expression(alloc, place, want, operand, next)?;
     let ty = owned(alloc, t)?;
     Ok(Opened::Closed(nodes::to_index(alloc, ty, checks, inner)?))
@@ -359,18 +392,19 @@ fn raw(
 
 /// `!`, of a bool.
 #[cycle(cores)]
-fn negated(
-    alloc: Global,
-    place: &Place,
-    operand: &Expr,
-    next: &mut u32,
-) -> Result<Opened, Memory>
+fn negated(alloc: Global, place: &Place, operand: &Expr, next: &mut u32) -> Result<Opened, Memory>
     requires { Agrees place.now }
     ensures form { IfOk result (λ f. form_of f ≡ alone (core_syntax.Prefix (unchecked Truth) PrefixOp.Not (expr_from next.old (core_of (env_of place.now) Truth (expr_of operand.now))))) }
     ensures after { OnOk result (next.new ≡ expr_after next.old (core_of (env_of place.now) Truth (expr_of operand.now))) }
 {
     let inner = expression(alloc, place, TypeRef::Bool, operand, next)?;
-    let node = nodes::prefix(alloc, ValueType::Bool, Seq::new(alloc), PrefixOp::Not, inner)?;
+    let node = nodes::prefix(
+        alloc,
+        ValueType::Bool,
+        Seq::new(alloc),
+        PrefixOp::Not,
+        inner,
+    )?;
     Ok(Opened::Closed(node))
 }
 

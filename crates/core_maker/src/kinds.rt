@@ -25,7 +25,11 @@ pub(crate) fn first_token(span: Span, bytes: u32) -> Span
     ensures { result ≡ table.first_token span bytes }
 {
     let wide = span.start as u64 + bytes as u64;
-    let end = if wide <= span.end as u64 { wide as u32 } else { span.end };
+    let end = if wide <= span.end as u64 {
+        wide as u32
+    } else {
+        span.end
+    };
     Span {
         start: span.start,
         end,
@@ -106,7 +110,8 @@ fn only_below(length: u64, t: TypeRef) -> bool
     ensures { result ≡ table.only_below length (type_at t.entry) }
 {
     match t {
-        TypeRef::Int(from) => !is_signed(from) && greatest(from) <= length.saturating_sub(1) as i128,
+        TypeRef::Int(from) => !is_signed(from)
+            && greatest(from) <= length.saturating_sub(1) as i128,
         TypeRef::Bool | TypeRef::Ix(_) | TypeRef::Bits(_) | TypeRef::Ref(_) => false,
     }
 }

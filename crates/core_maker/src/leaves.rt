@@ -16,8 +16,8 @@ ghost use Rattle.core_maker.specs.Opened.{alone};
 ghost use Rattle.core_maker.specs.Places.{env_of, Agrees};
 ghost use Rattle.core_maker.specs.Postfixes as parts;
 
-use crate::nodes;
 use crate::joining::Opened;
+use crate::nodes;
 use crate::place::{Place, local_number, own};
 use crate::types::{area_position, element_type, field_type, number, owned};
 use area_types::ValueType;

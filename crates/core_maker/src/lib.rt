@@ -3,10 +3,10 @@
 
 mod before;
 mod expressions;
+mod joining;
 mod kinds;
 mod leaves;
 mod nodes;
-mod joining;
 mod operators;
 mod place;
 mod sites;

@@ -189,7 +189,11 @@ fn field_in<'a>(fields: &'a Seq<FieldDef>, name: &Word) -> Option<&'a FieldDef>
 }
 
 /// The field of the name of bit data.
-pub(crate) fn bit_field_named<'a>(items: &'a Items, number: u32, name: &Word) -> Option<&'a BitField>
+pub(crate) fn bit_field_named<'a>(
+    items: &'a Items,
+    number: u32,
+    name: &Word,
+) -> Option<&'a BitField>
     ensures { option_copied result ≡ parts.bit_field_named (earlier_of items.now) number name.now }
 {
     match items.bits.get(number as usize) {

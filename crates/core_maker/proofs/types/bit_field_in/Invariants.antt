@@ -1,4 +1,4 @@
-use Rattle.std.proofs.Common.{◌≡◌, map, drop}
+use Rattle.std.proofs.Common.{◌≡◌, drop}
 use Rattle.std.specs.List.{find}
 use Rattle.iv_words.specs.Words.{same_word}
 use Rattle.ivory_tree.specs.declared.BitField.{BitField}

@@ -1,0 +1,235 @@
+//! Which checks operators and forms make.
+
+ghost use Rattle.std.specs.Prelude.{◌≡◌, [], IfOk, OnOk};
+ghost use Rattle.std.specs.Option.{option_copied};
+ghost use Rattle.iv_words.specs.Kinds as range;
+ghost use Rattle.ivory_tree.specs.View as text;
+ghost use Rattle.source_types.specs.Settled.{settled};
+ghost use Rattle.rule_checker.specs.View.{type_at};
+ghost use Rattle.typing_rules.specs.ExpressionCores as cores;
+ghost use Rattle.typing_rules.specs.Sites as table;
+ghost use Rattle.core_maker.specs.Numbered.{kinds_from, kinds_after};
+ghost use Rattle.core_maker.specs.Places.{env_of, Agrees};
+
+use crate::place::{Place, own};
+use crate::sites::{one_check, two_checks};
+use crate::types::{is_signed_integer, least_unsigned};
+use core_tree::{Check, SiteKind};
+use iv_words::{IntKind, Memory, Seq, Span};
+use ivory_tree::{BinOp, BitField, Expr, PrefixOp};
+use rule_checker::{TypeRef, is_settled};
+use std::alloc::Global;
+
+/// The first token of a form, of so many bytes.
+pub(crate) fn first_token(span: Span, bytes: u32) -> Span
+    ensures { result ≡ table.first_token span bytes }
+{
+    let wide = span.start as u64 + bytes as u64;
+    let end = if wide <= span.end as u64 {
+        wide as u32
+    } else {
+        span.end
+    };
+    Span {
+        start: span.start,
+        end,
+    }
+}
+
+/// The bytes of the name of a kind.
+pub(crate) fn name_bytes(kind: IntKind) -> u32
+    ensures { result ≡ table.name_bytes kind }
+{
+    match kind {
+        IntKind::I8 => 6,
+        IntKind::U8 | IntKind::I16 | IntKind::I32 | IntKind::I64 => 7,
+        IntKind::U16 | IntKind::U32 | IntKind::U64 => 8,
+    }
+}
+
+fn least(kind: IntKind) -> i128
+    ensures { result ≡ range.least kind }
+{
+    match kind {
+        IntKind::U8 | IntKind::U16 | IntKind::U32 | IntKind::U64 => 0,
+        IntKind::I8 => -128,
+        IntKind::I16 => -32_768,
+        IntKind::I32 => -2_147_483_648,
+        IntKind::I64 => -9_223_372_036_854_775_808,
+    }
+}
+
+fn greatest(kind: IntKind) -> i128
+    ensures { result ≡ range.greatest kind }
+{
+    match kind {
+        IntKind::U8 => 255,
+        IntKind::U16 => 65_535,
+        IntKind::U32 => 4_294_967_295,
+        IntKind::U64 => 18_446_744_073_709_551_615,
+        IntKind::I8 => 127,
+        IntKind::I16 => 32_767,
+        IntKind::I32 => 2_147_483_647,
+        IntKind::I64 => 9_223_372_036_854_775_807,
+    }
+}
+
+fn is_signed(kind: IntKind) -> bool
+    ensures { result ≡ range.is_signed kind }
+{
+    match kind {
+        IntKind::U8 | IntKind::U16 | IntKind::U32 | IntKind::U64 => false,
+        IntKind::I8 | IntKind::I16 | IntKind::I32 | IntKind::I64 => true,
+    }
+}
+
+fn width(kind: IntKind) -> u64
+    ensures { result ≡ range.width kind }
+{
+    match kind {
+        IntKind::U8 | IntKind::I8 => 8,
+        IntKind::U16 | IntKind::I16 => 16,
+        IntKind::U32 | IntKind::I32 => 32,
+        IntKind::U64 | IntKind::I64 => 64,
+    }
+}
+
+/// Whether the type has only values of the kind.
+fn only_values_of(kind: IntKind, t: TypeRef) -> bool
+    ensures { result ≡ table.only_values_of kind (type_at t.entry) }
+{
+    match t {
+        TypeRef::Int(from) => least(kind) <= least(from) && greatest(from) <= greatest(kind),
+        TypeRef::Ix(length) => length.saturating_sub(1) as i128 <= greatest(kind),
+        TypeRef::Bool | TypeRef::Bits(_) | TypeRef::Ref(_) => false,
+    }
+}
+
+/// Whether the type has only values below the length and none negative.
+fn only_below(length: u64, t: TypeRef) -> bool
+    ensures { result ≡ table.only_below length (type_at t.entry) }
+{
+    match t {
+        TypeRef::Int(from) => !is_signed(from)
+            && greatest(from) <= length.saturating_sub(1) as i128,
+        TypeRef::Bool | TypeRef::Ix(_) | TypeRef::Bits(_) | TypeRef::Ref(_) => false,
+    }
+}
+
+/// One check, unless it is needless.
+fn check_unless(
+    alloc: Global,
+    needless: bool,
+    kind: SiteKind,
+    at: Span,
+    next: &mut u32,
+) -> Result<Seq<Check>, Memory>
+    ensures checks { IfOk result (λ cs. cs ≡ kinds_from next.old (table.unless needless kind) at) }
+    ensures after { OnOk result (next.new ≡ kinds_after next.old (table.unless needless kind) at) }
+{
+    if needless {
+        return Ok(Seq::new(alloc));
+    }
+    one_check(alloc, kind, at, next)
+}
+
+/// The checks of an operator for operands of the type.
+pub(crate) fn operator_checks(
+    alloc: Global,
+    op: BinOp,
+    t: TypeRef,
+    at: Span,
+    next: &mut u32,
+) -> Result<Seq<Check>, Memory>
+    ensures checks { IfOk result (λ cs. cs ≡ kinds_from next.old (table.operator_sites op (type_at t.entry)) at) }
+    ensures after { OnOk result (next.new ≡ kinds_after next.old (table.operator_sites op (type_at t.entry)) at) }
+{
+    match op {
+        BinOp::Add | BinOp::Sub | BinOp::Mul => one_check(alloc, SiteKind::Overflow, at, next),
+        BinOp::Div | BinOp::Rem => {
+            if is_signed_integer(t) {
+                return two_checks(alloc, SiteKind::DivZero, SiteKind::Overflow, at, next);
+            }
+            one_check(alloc, SiteKind::DivZero, at, next)
+        }
+        BinOp::Shl | BinOp::Shr => one_check(alloc, SiteKind::Shift, at, next),
+        BinOp::OrElse | BinOp::AndAlso | BinOp::Or | BinOp::Xor | BinOp::And | BinOp::Eq => {
+            Ok(Seq::new(alloc))
+        }
+        BinOp::Ne | BinOp::Lt | BinOp::Le | BinOp::Gt | BinOp::Ge => Ok(Seq::new(alloc)),
+        BinOp::WrapAdd | BinOp::WrapSub | BinOp::WrapMul => Ok(Seq::new(alloc)),
+    }
+}
+
+/// The checks of a prefix.
+pub(crate) fn prefix_checks(
+    alloc: Global,
+    op: PrefixOp,
+    at: Span,
+    next: &mut u32,
+) -> Result<Seq<Check>, Memory>
+    ensures checks { IfOk result (λ cs. cs ≡ kinds_from next.old (table.prefix_sites op) at) }
+    ensures after { OnOk result (next.new ≡ kinds_after next.old (table.prefix_sites op) at) }
+{
+    match op {
+        PrefixOp::Neg => one_check(alloc, SiteKind::Overflow, at, next),
+        PrefixOp::Not | PrefixOp::Flip | PrefixOp::Deref => Ok(Seq::new(alloc)),
+    }
+}
+
+/// The check of a conversion to the kind.
+pub(crate) fn cast_checks(
+    alloc: Global,
+    place: &Place,
+    kind: IntKind,
+    operand: &Expr,
+    at: Span,
+    next: &mut u32,
+) -> Result<Seq<Check>, Memory>
+    requires { Agrees place.now }
+    ensures checks { IfOk result (λ cs. cs ≡ kinds_from next.old (cores.cast_checks (env_of place.now) kind (text.expr_of operand.now)) at) }
+    ensures after { OnOk result (next.new ≡ kinds_after next.old (cores.cast_checks (env_of place.now) kind (text.expr_of operand.now)) at) }
+{
+    if is_settled(operand) {
+        let needless = only_values_of(kind, own(place, operand));
+        return check_unless(alloc, needless, SiteKind::Cast, at, next);
+    }
+    Ok(Seq::new(alloc))
+}
+
+/// The check of a conversion to an index.
+pub(crate) fn index_checks(
+    alloc: Global,
+    length: u64,
+    t: TypeRef,
+    at: Span,
+    next: &mut u32,
+) -> Result<Seq<Check>, Memory>
+    ensures checks { IfOk result (λ cs. cs ≡ kinds_from next.old (table.index_sites length (type_at t.entry)) at) }
+    ensures after { OnOk result (next.new ≡ kinds_after next.old (table.index_sites length (type_at t.entry)) at) }
+{
+    check_unless(alloc, only_below(length, t), SiteKind::Index, at, next)
+}
+
+/// Whether each value of the type of the new value fits the field.
+fn fills_its_type(field: &BitField) -> bool
+    ensures { table.unless result SiteKind.Cast ≡ table.set_sites field.now }
+{
+    field.truth || field.width == width(least_unsigned(field.width))
+}
+
+/// The check of a new value of a field of bit data.
+pub(crate) fn set_checks(
+    alloc: Global,
+    field: Option<&BitField>,
+    at: Span,
+    next: &mut u32,
+) -> Result<Seq<Check>, Memory>
+    ensures checks { IfOk result (λ cs. cs ≡ kinds_from next.old (cores.new_sites (option_copied field.entry)) at) }
+    ensures after { OnOk result (next.new ≡ kinds_after next.old (cores.new_sites (option_copied field.entry)) at) }
+{
+    match field {
+        Some(field) => check_unless(alloc, fills_its_type(field), SiteKind::Cast, at, next),
+        None => Ok(Seq::new(alloc)),
+    }
+}

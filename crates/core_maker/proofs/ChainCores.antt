@@ -17,7 +17,7 @@ use Rattle.typing_rules.specs.Environments.{Env}
 use Rattle.typing_rules.specs.Contexts.{context_of}
 use Rattle.typing_rules.specs.Sites.{unchecked}
 use Rattle.typing_rules.specs.Wholes.{level, is_chain_prefix, part}
-use Rattle.typing_rules.specs.Expressions.{result_type}
+use Rattle.core_tree.specs.Operators.{result_type}
 use Rattle.typing_rules.specs.ExpressionCores.{type_or, own, operand, core_of}
 use Rattle.core_maker.specs.Numbered.{label_from, label_after, expr_from, expr_after}
 use Rattle.core_maker.specs.Opened.{Form, AfterLink, AfterStep, closed, joined, alone, opened, kept, first_of}

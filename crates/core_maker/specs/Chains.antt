@@ -10,8 +10,8 @@ use Rattle.core_tree.specs.Syntax.{Label}
 use Rattle.source_types.specs.Operators.{is_logic, gives_truth}
 use Rattle.source_types.specs.Settled.{settled}
 use Rattle.typing_rules.specs.Environments.{Env}
-use Rattle.typing_rules.specs.Sites.{operator_sites}
-use Rattle.typing_rules.specs.Expressions.{result_type}
+use Rattle.core_tree.specs.Operators.{operator_sites}
+use Rattle.core_tree.specs.Operators.{result_type}
 use Rattle.typing_rules.specs.ExpressionCores.{bare, own, core_of}
 use Rattle.core_maker.specs.Numbered.{label_from, label_after, expr_from, expr_after}
 use Rattle.core_maker.specs.Opened.{Form, AfterLink, joined, first_of}

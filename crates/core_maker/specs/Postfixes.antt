@@ -11,7 +11,8 @@ use Rattle.core_tree.specs.Syntax as core
 use Rattle.core_tree.specs.Syntax.{ExprCore, type_of}
 use Rattle.source_types.specs.Parts.{length_behind, element_type, field_type, word_type, bit_field_named, bit_field_number}
 use Rattle.typing_rules.specs.Environments.{Env}
-use Rattle.typing_rules.specs.Sites.{unchecked, prefix_sites, first_token}
+use Rattle.core_tree.specs.Operators.{prefix_sites}
+use Rattle.typing_rules.specs.Sites.{unchecked, first_token}
 use Rattle.typing_rules.specs.ExpressionCores.{type_or, number_or, number_in, bare, bits_number, new_field, new_type, new_sites, own, core_of}
 use Rattle.core_maker.specs.Numbered.{expr_from, expr_after, kinds_after}
 use Rattle.core_maker.specs.Opened.{Form, AfterStep, based, first_of}

@@ -7,6 +7,7 @@ ghost use Rattle.ivory_tree.specs.View as text;
 ghost use Rattle.source_types.specs.Settled.{settled};
 ghost use Rattle.rule_checker.specs.View.{type_at};
 ghost use Rattle.typing_rules.specs.ExpressionCores as cores;
+ghost use Rattle.core_tree.specs.Operators as operators;
 ghost use Rattle.typing_rules.specs.Sites as table;
 ghost use Rattle.core_maker.specs.Numbered.{kinds_from, kinds_after};
 ghost use Rattle.core_maker.specs.Places.{env_of, Agrees};
@@ -124,8 +125,8 @@ fn check_unless(
     at: Span,
     next: &mut u32,
 ) -> Result<Seq<Check>, Memory>
-    ensures checks { IfOk result (λ cs. cs ≡ kinds_from next.old (table.unless needless kind) at) }
-    ensures after { OnOk result (next.new ≡ kinds_after next.old (table.unless needless kind) at) }
+    ensures checks { IfOk result (λ cs. cs ≡ kinds_from next.old (operators.unless needless kind) at) }
+    ensures after { OnOk result (next.new ≡ kinds_after next.old (operators.unless needless kind) at) }
 {
     if needless {
         return Ok(Seq::new(alloc));
@@ -141,8 +142,8 @@ pub(crate) fn operator_checks(
     at: Span,
     next: &mut u32,
 ) -> Result<Seq<Check>, Memory>
-    ensures checks { IfOk result (λ cs. cs ≡ kinds_from next.old (table.operator_sites op (type_at t.entry)) at) }
-    ensures after { OnOk result (next.new ≡ kinds_after next.old (table.operator_sites op (type_at t.entry)) at) }
+    ensures checks { IfOk result (λ cs. cs ≡ kinds_from next.old (operators.operator_sites op (type_at t.entry)) at) }
+    ensures after { OnOk result (next.new ≡ kinds_after next.old (operators.operator_sites op (type_at t.entry)) at) }
 {
     match op {
         BinOp::Add | BinOp::Sub | BinOp::Mul => one_check(alloc, SiteKind::Overflow, at, next),
@@ -168,8 +169,8 @@ pub(crate) fn prefix_checks(
     at: Span,
     next: &mut u32,
 ) -> Result<Seq<Check>, Memory>
-    ensures checks { IfOk result (λ cs. cs ≡ kinds_from next.old (table.prefix_sites op) at) }
-    ensures after { OnOk result (next.new ≡ kinds_after next.old (table.prefix_sites op) at) }
+    ensures checks { IfOk result (λ cs. cs ≡ kinds_from next.old (operators.prefix_sites op) at) }
+    ensures after { OnOk result (next.new ≡ kinds_after next.old (operators.prefix_sites op) at) }
 {
     match op {
         PrefixOp::Neg => one_check(alloc, SiteKind::Overflow, at, next),
@@ -213,7 +214,7 @@ pub(crate) fn index_checks(
 
 /// Whether each value of the type of the new value fits the field.
 fn fills_its_type(field: &BitField) -> bool
-    ensures { table.unless result SiteKind.Cast ≡ table.set_sites field.now }
+    ensures { operators.unless result SiteKind.Cast ≡ table.set_sites field.now }
 {
     field.truth || field.width == width(least_unsigned(field.width))
 }

@@ -3,7 +3,7 @@
 ghost use Rattle.std.specs.Prelude.{◌≡◌};
 ghost use Rattle.source_types.specs.Operators as table;
 ghost use Rattle.rule_checker.specs.View.{type_at};
-ghost use Rattle.typing_rules.specs.Expressions as typing;
+ghost use Rattle.core_tree.specs.Operators as operators;
 ghost use Rattle.typing_rules.specs.Wholes as wholes;
 
 use ivory_tree::BinOp;
@@ -60,7 +60,7 @@ pub(crate) fn gives_truth(op: BinOp) -> bool
 
 /// What an operator gives for operands of the type.
 pub(crate) fn result_type<'a>(op: BinOp, t: TypeRef<'a>) -> TypeRef<'a>
-    ensures { type_at result ≡ typing.result_type op (type_at t.entry) }
+    ensures { type_at result ≡ operators.result_type op (type_at t.entry) }
 {
     if is_comparison(op) { TypeRef::Bool } else { t }
 }

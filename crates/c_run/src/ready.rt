@@ -1,6 +1,7 @@
 //! Units that can be run, and whole runs.
 
-ghost use Rattle.std.specs.Prelude.{◌≡◌, if◌then◌else◌, [], Ok, IfOk, OnOk, OnErr};
+ghost use Rattle.std.specs.Prelude.{◌≡◌, ◌+◌, if◌then◌else◌, [], length, Ok, Err, IfOk, OnOk, OnErr};
+ghost use Rattle.iv_base.specs.Counts.{capped};
 ghost use Rattle.iv_base.specs.Sinks.{grown, GrewByPrefix};
 ghost use Rattle.iv_script.specs.Report.{report};
 ghost use Rattle.c_ast.specs.View.{unit_of};
@@ -10,6 +11,7 @@ ghost use Rattle.run_world.specs.Comes.{shows_areas};
 ghost use Rattle.c_expressions.specs.Programs.{program_of};
 ghost use Rattle.c_expressions.specs.State.{state_of};
 ghost use Rattle.c_run.specs.Reports.{HasSinkCause};
+ghost use Rattle.c_run.specs.declared.ready.RunError.TheVariants.{Memory as memory};
 
 use crate::areas::areas_of;
 use crate::entries::run_calls;
@@ -144,6 +146,8 @@ fn outcome_of(alloc: Global, program: &Program, script: &Script, n: u64) -> Resu
 
 impl CReady {
     /// Runs a script within n steps, from the first state, and puts the report. The unit stays as it was.
+    ///
+    /// Want of memory comes before anything is put.
     pub fn run<K: Sink>(
         &mut self,
         alloc: Global,
@@ -153,8 +157,10 @@ impl CReady {
     ) -> Result<End, RunError>
         ensures end { IfOk result (λ end. end ≡ (run_c (unit_of self.old.unit) self.old.target script.now n).end) }
         ensures held { OnOk result (K.held out.new ≡ grown (K.held out.old) (report (run_c (unit_of self.old.unit) self.old.target script.now n))) }
+        ensures taken { OnOk result (K.taken out.new ≡ capped (K.taken out.old + length (report (run_c (unit_of self.old.unit) self.old.target script.now n)))) }
         ensures part { OnErr result (GrewByPrefix (K.held out.old) (K.held out.new) (report (run_c (unit_of self.old.unit) self.old.target script.now n))) }
         ensures cause { HasSinkCause (K.faults out.old) (K.faults out.new) result }
+        ensures before { result ≡ Err memory → out.new ≡ out.old }
         ensures same { self.new ≡ self.old }
     {
         let outcome = outcome_of(alloc, &self.program, script, n)?;

@@ -1,5 +1,5 @@
 -- The command line: which lists of words are a command, and which one.
-use Rattle.std.specs.Prelude.{ℕ, ◌≤◌, Bool, true, false, ◌&&◌, nat_le, if◌then◌else◌, List, [], ◌∷◌, length, Option, Some, None, codes}
+use Rattle.std.specs.Prelude.{ℕ, Bool, true, false, ◌&&◌, nat_le, if◌then◌else◌, List, [], ◌∷◌, length, Option, Some, None, codes}
 use Rattle.iv_base.specs.Numbers.{are_digits, value}
 use Rattle.iv_words.specs.Words.{same_word}
 use Rattle.ivoryc.specs.declared.command.Command.{Command}
@@ -41,8 +41,3 @@ command (name ∷ file ∷ []) = file_command name file
 command (name ∷ file ∷ script ∷ []) = None
 command (name ∷ file ∷ script ∷ steps ∷ []) = run_command name file script (steps_of steps)
 command (name ∷ file ∷ script ∷ steps ∷ more ∷ rest) = None
-
--- a command asks for no more steps than can be asked for
-abbrev pub HasFewSteps : Command → Type 0
-HasFewSteps (Emit file) = Unit {0}
-HasFewSteps (CRun file script n) = n ≤ most_steps

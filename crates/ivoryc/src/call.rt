@@ -1,5 +1,4 @@
 ghost use Rattle.ivoryc.specs.Calls.{change_of, store_seen, sink_seen};
-ghost use Rattle.ivoryc.specs.Commands.{HasFewSteps};
 ghost use Rattle.ivoryc.specs.Promise.{Promise};
 ghost use Rattle.ivoryc.specs.Steps.{LoadsFor, Performed, Ran};
 
@@ -59,7 +58,6 @@ fn perform<S: Store, K: Sink>(
     store: &mut S,
     out: &mut K,
 ) -> Result<(), Refusal>
-    requires { HasFewSteps command.now }
     ensures loads { LoadsFor command.now (change_of (store_seen S.holds S.loads S.faults) store.old store.new) }
     ensures performed { Performed command.now (change_of (store_seen S.holds S.loads S.faults) store.old store.new) (change_of (sink_seen K.held K.taken K.faults) out.old out.new) result }
 {

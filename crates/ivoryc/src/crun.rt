@@ -1,7 +1,6 @@
 //! Runs of C texts.
 
 ghost use Rattle.std.specs.Prelude.{◌≤◌, length};
-ghost use Rattle.run_records.specs.Scripts.{Fits};
 ghost use Rattle.iv_script.specs.Report.{report};
 ghost use Rattle.iv_script.specs.ScriptText.{script_limit};
 ghost use Rattle.c_ast.specs.Exports.{c_exports};
@@ -10,7 +9,6 @@ ghost use Rattle.c_ast.specs.declared.Target.TheVariants.{T32 as t32};
 ghost use Rattle.c_meaning.specs.Runs.{run_c};
 ghost use Rattle.c_reader.specs.Answers.{text_limit};
 ghost use Rattle.ivoryc.specs.Calls.{change_of, store_seen, sink_seen};
-ghost use Rattle.ivoryc.specs.Commands.{most_steps};
 ghost use Rattle.ivoryc.specs.Steps.{LoadsFor, Performed, RanC, ReadC, ScriptFor, Written};
 ghost use Rattle.ivoryc.specs.declared.command.Command.TheVariants.{CRun};
 
@@ -35,7 +33,6 @@ pub fn crun<S: Store, K: Sink>(
     store: &mut S,
     out: &mut K,
 ) -> Result<(), Refusal>
-    requires { steps ≤ most_steps }
     ensures loads { LoadsFor (CRun file.now script.now steps) (change_of (store_seen S.holds S.loads S.faults) store.old store.new) }
     ensures performed { Performed (CRun file.now script.now steps) (change_of (store_seen S.holds S.loads S.faults) store.old store.new) (change_of (sink_seen K.held K.taken K.faults) out.old out.new) result }
 {
@@ -53,7 +50,6 @@ fn run_texts<K: Sink>(
 ) -> Result<(), Refusal>
     requires text { length text.now ≤ text_limit }
     requires script { length said.now ≤ script_limit }
-    requires steps { steps ≤ most_steps }
     ensures { RanC text.now said.now steps (change_of (sink_seen K.held K.taken K.faults) out.old out.new) result }
 {
     let unit = read_c(alloc, text)?;
@@ -89,7 +85,7 @@ fn script_for(alloc: Global, unit: &CUnit, said: &[u8]) -> Result<Script, Refusa
     }
 }
 
-/// Writes the report of a run of a unit by a script that fits it.
+/// Writes the report of a run of a unit by a script.
 fn run_unit<K: Sink>(
     alloc: Global,
     unit: CUnit,
@@ -97,8 +93,6 @@ fn run_unit<K: Sink>(
     steps: u64,
     out: &mut K,
 ) -> Result<(), Refusal>
-    requires fits { Fits script.now (c_exports (unit_of unit)) }
-    requires steps { steps ≤ most_steps }
     ensures { Written (report (run_c (unit_of unit) t32 script.now steps)) (change_of (sink_seen K.held K.taken K.faults) out.old out.new) result }
 {
     let mut ready = prepare_c(alloc, unit, Target::T32)?;

@@ -2,7 +2,6 @@ use Rattle.std.proofs.Common.{◌≡◌, ◌∙◌, sym, ap, Err, refl}
 use Rattle.std.proofs.lemmas.Result.{err_from_is_err_and}
 use Rattle.ivoryc.specs.Steps.{Ran}
 use Rattle.ivoryc.specs.declared.refusal.Refusal.TheVariants as refusal
-use Rattle.ivoryc.proofs.StepWords.{asked_is_few}
 use Rattle.ivoryc.proofs.call.run.Goals as goal
 
 pub returns-in_err-command : goal.returns-in_err-command
@@ -13,9 +12,6 @@ returns-in_err-command g c =
 
 pub returns-in-Some : goal.returns-in-Some
 returns-in-Some g c = Ran.performed c.in-Some.command (sym c.in_ok-command.ensures ∙ c.in-Some.is) c.perform.ensures.loads c.perform.ensures.performed
-
-pub perform-requires : goal.perform-requires
-perform-requires g c = asked_is_few c.args.words.now c.in-Some.command (sym c.in_ok-command.ensures ∙ c.in-Some.is)
 
 pub returns-in-None : goal.returns-in-None
 returns-in-None g c = Ran.no_command (sym c.in_ok-command.ensures ∙ c.in-None.is) refl refl

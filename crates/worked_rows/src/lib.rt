@@ -7,8 +7,6 @@ mod areas;
 #[cfg(test)]
 mod bit_fields;
 #[cfg(test)]
-mod c_memory;
-#[cfg(test)]
 mod c_types;
 #[cfg(test)]
 mod cores;
@@ -20,6 +18,8 @@ mod generated;
 mod guards;
 #[cfg(test)]
 mod indexes;
+#[cfg(test)]
+mod memory_of_c;
 #[cfg(test)]
 mod operators;
 #[cfg(test)]

@@ -1,5 +1,7 @@
 -- The frame of a function at its entry, from its last parameter on.
 use Rattle.std.proofs.Common.{◌≡◌, ℕ, ◌+◌, ◌-◌, ◌<◌, List, [], ◌∷◌, ◌++◌, length, map, drop, get_or, min, refl, sym, ap, ◌∙◌, arith}
+use Rattle.std.proofs.lemmas.List.{map-append, reverse-append}
+use Rattle.std.specs.Prelude.{reverse}
 use Rattle.c_ast.specs.declared.CParam.{CParam}
 use Rattle.c_meaning.specs.Runs.{bound}
 use Rattle.c_meaning.specs.State.{Holding}
@@ -7,9 +9,13 @@ use Rattle.c_operators.specs.Values.{value_of}
 use Rattle.c_operators.specs.declared.Value.{Value}
 use Rattle.c_expressions.specs.State.{frame_of, local_of}
 use Rattle.c_expressions.specs.declared.Local.{Local}
-use Rattle.c_expressions.proofs.Frames.{pushed}
 use Rattle.c_objects.proofs.Rows.{none_left}
 use Rattle.run_world.proofs.Rests.{one_left}
+
+module _ {A B : Type 0} (f : A → B) where
+  -- what is pushed last is seen first
+  pushed : (xs : List A) (x : A) → reverse (map f (xs ++ x ∷ [])) ≡ f x ∷ reverse (map f xs)
+  pushed xs x = ap reverse (map-append f xs (x ∷ [])) ∙ reverse-append (map f xs) (f x ∷ [])
 
 module _ (ps : List CParam) (vs : List Value) where
   pub one_bound : (at : ℕ) (p : CParam) (v : Value) → at < length ps → at < length vs → p ≡ get_or ps at p → v ≡ get_or vs at v → bound (drop at ps) (map value_of (drop at vs)) ≡ (p.name, Holding (value_of v)) ∷ bound (drop (at + 1) ps) (map value_of (drop (at + 1) vs))

@@ -7,7 +7,9 @@ ghost use Rattle.ivory_tree.specs.View as text;
 ghost use Rattle.source_types.specs.Settled.{settled};
 ghost use Rattle.rule_checker.specs.View.{type_at};
 ghost use Rattle.typing_rules.specs.ExpressionCores as cores;
+ghost use Rattle.index_types.specs.Indices.{is_index};
 ghost use Rattle.core_tree.specs.Operators as operators;
+ghost use Rattle.core_tree.specs.Types as types;
 ghost use Rattle.typing_rules.specs.Sites as table;
 ghost use Rattle.core_maker.specs.Numbered.{kinds_from, kinds_after};
 ghost use Rattle.core_maker.specs.Places.{env_of, Agrees};
@@ -75,15 +77,6 @@ fn greatest(kind: IntKind) -> i128
     }
 }
 
-fn is_signed(kind: IntKind) -> bool
-    ensures { result ≡ range.is_signed kind }
-{
-    match kind {
-        IntKind::U8 | IntKind::U16 | IntKind::U32 | IntKind::U64 => false,
-        IntKind::I8 | IntKind::I16 | IntKind::I32 | IntKind::I64 => true,
-    }
-}
-
 fn width(kind: IntKind) -> u64
     ensures { result ≡ range.width kind }
 {
@@ -95,26 +88,28 @@ fn width(kind: IntKind) -> u64
     }
 }
 
-/// Whether the type has only values of the kind.
-fn only_values_of(kind: IntKind, t: TypeRef) -> bool
-    ensures { result ≡ table.only_values_of kind (type_at t.entry) }
+/// Whether each value of the type is one of the kind.
+fn has_values_of(kind: IntKind, t: TypeRef) -> bool
+    ensures { result ≡ types.has_values_of kind (type_at t.entry) }
 {
     match t {
         TypeRef::Int(from) => least(kind) <= least(from) && greatest(from) <= greatest(kind),
-        TypeRef::Ix(length) => length.saturating_sub(1) as i128 <= greatest(kind),
+        TypeRef::Ix(length) => length as i128 - 1 <= greatest(kind),
         TypeRef::Bool | TypeRef::Bits(_) | TypeRef::Ref(_) => false,
     }
 }
 
-/// Whether the type has only values below the length and none negative.
-fn only_below(length: u64, t: TypeRef) -> bool
-    ensures { result ≡ table.only_below length (type_at t.entry) }
+fn is_index(length: u64, v: i128) -> bool
+    ensures { result ≡ is_index length v }
 {
-    match t {
-        TypeRef::Int(from) => !is_signed(from)
-            && greatest(from) <= length.saturating_sub(1) as i128,
-        TypeRef::Bool | TypeRef::Ix(_) | TypeRef::Bits(_) | TypeRef::Ref(_) => false,
-    }
+    0 <= v && v < length as i128
+}
+
+/// Whether each number of the kind is an index of the length.
+fn has_indices_of(length: u64, kind: IntKind) -> bool
+    ensures { result ≡ types.has_indices_of length kind }
+{
+    is_index(length, least(kind)) && is_index(length, greatest(kind))
 }
 
 /// One check, unless it is needless.
@@ -192,7 +187,7 @@ pub(crate) fn cast_checks(
     ensures after { OnOk result (next.new ≡ kinds_after next.old (cores.cast_checks (env_of place.now) kind (text.expr_of operand.now)) at) }
 {
     if is_settled(operand) {
-        let needless = only_values_of(kind, own(place, operand));
+        let needless = has_values_of(kind, own(place, operand));
         return check_unless(alloc, needless, SiteKind::Cast, at, next);
     }
     Ok(Seq::new(alloc))
@@ -209,7 +204,15 @@ pub(crate) fn index_checks(
     ensures checks { IfOk result (λ cs. cs ≡ kinds_from next.old (table.index_sites length (type_at t.entry)) at) }
     ensures after { OnOk result (next.new ≡ kinds_after next.old (table.index_sites length (type_at t.entry)) at) }
 {
-    check_unless(alloc, only_below(length, t), SiteKind::Index, at, next)
+    match t {
+        TypeRef::Int(kind) => {
+            let needless = has_indices_of(length, kind);
+            check_unless(alloc, needless, SiteKind::Index, at, next)
+        }
+        TypeRef::Bool | TypeRef::Ix(_) | TypeRef::Bits(_) | TypeRef::Ref(_) => {
+            one_check(alloc, SiteKind::Index, at, next)
+        }
+    }
 }
 
 /// Whether each value of the type of the new value fits the field.

@@ -49,7 +49,7 @@ c "static uint8_t iv_a = $(printf '(-%.0s' {1..301})"
 expect 1 '' '4:623: c too deep' crun a.c a.script 10000
 
 # scripts that do not read, or do not fit
-c 'void iv_f(uint8_t x) {\n}\n'
+c 'void iv_f(uint8_t const x) {\n}\n'
 script '# none\ncall nope\n'
 expect 7 '' 'script line 2: name' crun a.c a.script 10000
 script 'call f 1 2\n'

@@ -1,9 +1,6 @@
 #!/usr/bin/env python3
-"""Instructions of `c_reader::read_unit` for each byte of C texts of about a megabyte, beside `tcc -c` on the same texts. It prints the table of
-README.md beside this file, or writes it there with --write.
-
-The reader has no command of its own yet: this makes a program in a temporary copy of the crates below it, builds it once with `rt run` (which
-proves the copies, over what is kept on this machine), and runs it under valgrind."""
+"""Instructions of `ivoryc crun` for each byte of C texts of about a megabyte, with a script that calls nothing, so that the reading of the text is
+nearly all of it; beside `tcc -c` on the same texts. It prints the table of README.md beside this file, or writes it there with --write."""
 import os
 import re
 import shutil
@@ -12,29 +9,11 @@ import sys
 import tempfile
 
 TOP = os.path.dirname(os.path.dirname(os.path.abspath(__file__)))
+PROGRAM = os.path.join(TOP, "crates", "ivoryc", "out", "ivoryc")
 PAGE = os.path.join(TOP, "bench", "README.md")
 BEGIN, END = "<!-- made by read_c.py -->\n", "<!-- end of read_c.py -->\n"
 WANTED = 1_000_000
 HEAD = "#include <stdint.h>\n#include <stdbool.h>\nextern void ivory_stop(uint32_t);\n"
-MAIN = """//! Reads standard input as a unit of C, and prints what became of it.
-#![tactic(auto)]
-
-use c_reader::{ReadFault, Target, read_unit};
-use std::io;
-
-fn main(rt: HostRuntime) -> io::Result<()> {
-    let text = io::read_to_string(rt.alloc(), rt.stdin())?;
-    if text.len() > 268_435_456 {
-        return println!(rt; "too long");
-    }
-    match read_unit(rt.alloc(), text.as_bytes(), Target::T32) {
-        Ok(unit) => println!(rt; "read {}", unit.functions.len()),
-        Err(ReadFault::At(fault)) => println!(rt; "fault at {}", fault.at),
-        Err(ReadFault::Memory) => println!(rt; "want of memory"),
-    }
-}
-"""
-
 
 def filled(head, piece):
     """A text of pieces, each made of its number, as long as is wanted."""
@@ -91,70 +70,44 @@ def texts():
     yield "functions that compute", filled(HALVED, lambda n: COMPUTED.format(n=n, c=n % 1000))
 
 
-def crates_below():
-    """The lines of crates.txt for the reader and all that it stands on, and their names."""
-    with open(os.path.join(TOP, "crates.txt")) as file:
-        lines = {line.split(":")[0].strip(): line for line in file if re.match(r"\w", line)}
-    wanted, names = ["c_reader"], []
-    while wanted:
-        name = wanted.pop()
-        if name in lines and name not in names:
-            names.append(name)
-            wanted += lines[name].split(":")[1].split()
-    return names, [lines[name] for name in lines if name in names]
-
-
-def built(folder):
-    """The program, in a copy of the crates."""
-    names, lines = crates_below()
-    for crate in names:
-        shutil.copytree(os.path.join(TOP, "crates", crate), os.path.join(folder, "crates", crate), symlinks=True)
-    os.makedirs(os.path.join(folder, "crates", "read_bench", "src"))
-    with open(os.path.join(folder, "crates", "read_bench", "src", "main.rt"), "w") as file:
-        file.write(MAIN)
-    shutil.copy(os.path.join(TOP, "HANDLES"), folder)
-    with open(os.path.join(folder, "crates.txt"), "w") as file:
-        file.writelines(lines + [f"read_bench: {' '.join(names)}\n"])
-    run = subprocess.run(["rt", "run"], cwd=os.path.join(folder, "crates", "read_bench"), stdin=subprocess.DEVNULL,
-                         stdout=subprocess.PIPE, stderr=subprocess.STDOUT, text=True, check=False)
-    program = os.path.join(folder, "crates", "read_bench", "out", "read_bench")
-    if not os.path.exists(program):
-        sys.exit("the program was not built:\n" + run.stdout[-2000:])
-    return program
-
-
-def instructions(command, text=b""):
+def instructions(command):
     """The instructions of a command, by callgrind, and what it wrote."""
-    run = subprocess.run(["valgrind", "--tool=callgrind", "--callgrind-out-file=/dev/null", *command], input=text,
+    run = subprocess.run(["valgrind", "--tool=callgrind", "--callgrind-out-file=/dev/null", *command],
                          stdout=subprocess.PIPE, stderr=subprocess.PIPE, check=False)
     return int(re.search(rb"refs:\s+([\d,]+)", run.stderr).group(1).replace(b",", b"")), run.stdout.decode()
 
 
-def row(program, start, name, text, folder):
-    ours, said = instructions([program], text.encode())
-    if not said.startswith("read "):
-        sys.exit(f"{name}: {said}")
-    theirs, ratio = "", ""
+def read(text, folder):
+    """The instructions that the program takes for a text, which must read back."""
+    unit, script = os.path.join(folder, "unit.c"), os.path.join(folder, "none.script")
+    with open(unit, "w") as file:
+        file.write(text)
+    with open(script, "w") as file:
+        file.write("")
+    taken, said = instructions([PROGRAM, "crun", unit, script, "0"])
+    if said != "end\n":
+        sys.exit(f"not read: {text[:200]}")
+    return taken
+
+
+def row(start, name, text, folder):
+    ours, theirs, ratio = read(text, folder) - start, "", ""
     if shutil.which("tcc"):
-        path = os.path.join(folder, "unit.c")
-        with open(path, "w") as file:
-            file.write(text)
-        other, _ = instructions(["tcc", "-c", path, "-o", os.path.join(folder, "unit.o")])
-        theirs, ratio = f"{other / len(text):.0f}", f"{(ours - start) / other:.2f}"
-    return f"| {name} | {len(text):,} | {(ours - start) / len(text):.0f} | {theirs} | {ratio} |\n"
+        other, _ = instructions(["tcc", "-c", os.path.join(folder, "unit.c"), "-o", os.path.join(folder, "unit.o")])
+        theirs, ratio = f"{other / len(text):.0f}", f"{ours / other:.2f}"
+    return f"| {name} | {len(text):,} | {ours / len(text):.0f} | {theirs} | {ratio} |\n"
 
 
 def table():
     with tempfile.TemporaryDirectory() as folder:
-        program = built(folder)
-        start, _ = instructions([program])
+        start = read(HEAD, folder)
         head = "| Text | Bytes | Instructions for each byte | `tcc -c`, for each byte | ratio |\n|---|---|---|---|---|\n"
-        return head + "".join(row(program, start, name, text, folder) for name, text in texts())
+        return head + "".join(row(start, name, text, folder) for name, text in texts())
 
 
 def main():
-    if not shutil.which("valgrind"):
-        sys.exit("valgrind is not installed")
+    if not shutil.which("valgrind") or not os.path.exists(PROGRAM):
+        sys.exit("valgrind is not installed, or the program is not built (./ivoryc --prove)")
     made = table()
     if sys.argv[1:] != ["--write"]:
         print(made, end="")

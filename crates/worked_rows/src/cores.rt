@@ -1,5 +1,5 @@
-use core_tree::{Check, Core, CoreExpr, CoreKind, CoreProc, CoreStmt, SiteKind, exports_of};
 use area_types::{StructTable, ValueType};
+use core_tree::{Check, Core, CoreExpr, CoreKind, CoreProc, CoreStmt, SiteKind, exports_of};
 use iv_words::{Memory, Seq, Span, Word};
 use std::alloc::Global;
 

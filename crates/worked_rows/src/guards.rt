@@ -5,10 +5,10 @@ ghost use Rattle.c_ast.specs.declared.Target.TheVariants.{T32};
 ghost use Rattle.overflow_checks.specs.Checks as checks;
 ghost use Rattle.overflow_checks.specs.Contract.{IsOperand};
 
-use overflow_checks::{compute, guard};
 use c_ast::{CBinary, CExpr, CPlace, CUnary, Suffix, Target};
 use int_ops::{Op, Stop, allowed, fits};
 use iv_words::{IntKind, Memory, Word};
+use overflow_checks::{compute, guard};
 use std::alloc::Global;
 
 // ---- expressions as texts, in which a cast is `c` and an operator has one byte

@@ -1,7 +1,7 @@
+use c_ast::{CBase, CMember, CScalar, CStruct, Target};
 use c_objects::{
     Base, Fault, ObjectType, Objects, Refusal, find_type, lay_type, make_types, size_of, type_of,
 };
-use c_ast::{CBase, CMember, CScalar, CStruct, Target};
 use iv_words::{IntKind, Memory, Seq, Word};
 use std::alloc::Global;
 

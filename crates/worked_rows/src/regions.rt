@@ -3,9 +3,9 @@ ghost use Rattle.area_types.specs.Syntax as syntax;
 ghost use Rattle.area_types.specs.View.{type_of};
 ghost use Rattle.region_check.specs.Found.{is_numbered};
 
-use region_check::{RegionFault, apply_subst, escapes, match_regions};
 use area_types::{Area, RefType, Region, ValueType};
 use iv_words::{Memory, Seq};
+use region_check::{RegionFault, apply_subst, escapes, match_regions};
 use std::alloc::Global;
 
 #[tactic(auto, using(region_check::proofs::Apart::ref_is))]

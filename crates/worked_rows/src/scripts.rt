@@ -1,11 +1,11 @@
 ghost use Rattle.std.specs.Prelude.{◌≤◌, length};
 ghost use Rattle.iv_script.specs.ScriptText.{script_limit};
 
+use iv_base::{MemSink, SinkFault};
 use iv_script::{
     AreaCells, End, Event, Export, Outcome, Piece, Plain, Reason, ScriptError, ScriptFault,
     ScriptWhy, fit_script, read_script, write_report,
 };
-use iv_base::{MemSink, SinkFault};
 use iv_words::{IntKind, Seq, Word};
 use std::alloc::Global;
 use std::test::Fail;

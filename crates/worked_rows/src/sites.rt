@@ -1,5 +1,5 @@
-use contract_checks::site_table;
 use area_types::StructTable;
+use contract_checks::site_table;
 use core_tree::{Core, CoreProc};
 use iv_words::{Memory, Seq, Word};
 use std::alloc::Global;

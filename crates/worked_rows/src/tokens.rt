@@ -1,7 +1,7 @@
 //! Texts with their tokens or their fault, each with its place.
 
-use ivory_lexer::{Key, Mark, SOURCE_LIMIT, TokenKind, lex};
 use iv_words::Span;
+use ivory_lexer::{Key, Mark, SOURCE_LIMIT, TokenKind, lex};
 use std::alloc::Global;
 use std::fmt::Write;
 use std::test::Fail;

@@ -29,6 +29,7 @@ pub same_turned : (a b : List ℕ) → same_word a b ≡ same_word b a
 same_turned a b = go (same_word a b) (same_word b a) refl refl where
   back : (v w : List ℕ) → same_word v w ≡ true → same_word w v ≡ true
   back v w h = ap (same_word w) (same_equal v w h) ∙ same_self w
+
   go : (x y : Bool) → same_word a b ≡ x → same_word b a ≡ y → x ≡ y
   go true true h g = refl
   go false false h g = refl

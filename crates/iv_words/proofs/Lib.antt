@@ -2,3 +2,4 @@ pub mod Columns
 pub mod Widths
 pub mod Modular
 pub mod Ranges
+pub mod Equality

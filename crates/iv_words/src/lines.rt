@@ -21,22 +21,3 @@ pub fn line_of(text: &[u8], at: u32) -> (u32, u32)
     }
     (line, column)
 }
-
-#[cfg(test)]
-mod tests {
-    use super::*;
-
-    #[test]
-    fn counts_from_one(rt: HostRuntime) {
-        for (at, place) in [
-            (0, (1, 1)),
-            (2, (1, 3)),
-            (3, (2, 1)),
-            (4, (3, 1)),
-            (5, (3, 2)),
-        ] {
-            assert_eq!(rt; line_of(b"ab\n\nc", at), place);
-        }
-        assert_eq!(rt; line_of(b"module m;\nexport proc main() {", 30), (2, 21));
-    }
-}

@@ -165,35 +165,3 @@ impl<T: PartialEq> PartialEq for Seq<T> {
 impl<T: Eq> Eq for Seq<T> {
     ghost laws = { lists_equiv T.Eq.laws };
 }
-
-#[cfg(test)]
-mod tests {
-    use super::*;
-    use crate::boxed::Box;
-    use crate::place::{Name, Span};
-    use crate::word::Word;
-
-    #[test]
-    fn grows_and_copies(rt: HostRuntime) -> Result<(), Memory> {
-        let alloc = rt.alloc();
-        let mut word = Word::new(alloc);
-        word.push(b'a')?;
-        word.extend_from_slice(b"bc")?;
-        assert_eq!(rt; word.as_slice(), b"abc".as_slice());
-
-        let mut words = Seq::new(alloc);
-        words.push(Box::new(alloc, word.copy(alloc)?)?)?;
-        words.push(Box::new(alloc, Word::new(alloc))?)?;
-        let copy = words.copy(alloc)?;
-        assert_eq!(rt; copy, words);
-        assert_eq!(rt; copy.len(), 2);
-        assert_eq!(rt; *copy[0].get(), word);
-
-        let name = Name {
-            text: word,
-            span: Span { start: 3, end: 6 },
-        };
-        assert_eq!(rt; name.copy(alloc)?, name);
-        Ok(())
-    }
-}

@@ -32,3 +32,5 @@ mod scripts;
 mod sites;
 #[cfg(test)]
 mod tokens;
+#[cfg(test)]
+mod words;

@@ -21,6 +21,8 @@ mod indexes;
 #[cfg(test)]
 mod memory_of_c;
 #[cfg(test)]
+mod numbers;
+#[cfg(test)]
 mod operators;
 #[cfg(test)]
 mod paths;
@@ -30,6 +32,10 @@ mod regions;
 mod scripts;
 #[cfg(test)]
 mod sites;
+#[cfg(test)]
+mod stores;
+#[cfg(test)]
+mod streams;
 #[cfg(test)]
 mod tokens;
 #[cfg(test)]

@@ -56,6 +56,11 @@ closes() { printf '%*s' "$1" '' | tr ' ' ')'; }
 text "module m;\nexport proc f() -> bool { return $(opens 31)true$(closes 31); }"; expect 8 'not built yet'
 text "module m;\nexport proc f() -> bool { return $(opens 32)true$(closes 32); }"; expect 1 '2:65: too deep'
 
+# an output that takes nothing
+text 'module m;\nexport proc main() {}'
+"$program" emit "$work/a.iv" >/dev/full 2>"$work/err"
+{ [ $? = 4 ] && [ ! -s "$work/err" ]; } || { echo "faults: an output that takes nothing"; failed=1; }
+
 "$program" run a b 100000001 >"$work/out" 2>"$work/err"
 [ $? = 2 ] || { echo "faults: a word that is no command"; failed=1; }
 

@@ -7,8 +7,6 @@
 
 mod laws;
 mod read;
-#[cfg(test)]
-mod tests;
 
 pub use c_ast::{CUnit, Target};
 pub use c_text::{CFault, CWhy};

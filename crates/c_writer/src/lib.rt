@@ -11,8 +11,6 @@ mod init;
 mod pending;
 mod pieces;
 mod stmt;
-#[cfg(test)]
-mod tests;
 mod types;
 mod unit;
 

@@ -105,37 +105,3 @@ impl<R: Files> Store for FileStore<R> {
         loaded
     }
 }
-
-#[cfg(test)]
-mod tests {
-    use super::*;
-    use iv_words::Memory;
-
-    fn word(alloc: Global, text: &[u8]) -> Result<Word, Memory> {
-        let mut word = Word::new(alloc);
-        word.extend_from_slice(text)?;
-        Ok(word)
-    }
-
-    #[test]
-    fn loads_what_a_file_holds(rt: HostRuntime) -> Result<(), LoadFault> {
-        let alloc = rt.alloc();
-        let path = "loads_what_a_file_holds.txt";
-        let name = word(alloc, path.as_bytes())?;
-        assert!(rt; fs::write(&rt, path, "hello").is_ok());
-
-        let mut store = FileStore::new(rt);
-        for (most, text) in [(0, "h"), (3, "hell"), (4, "hello"), (5, "hello")] {
-            let loaded = store.load(alloc, &name, most)?;
-            assert_eq!(rt; loaded.as_slice(), text.as_bytes());
-        }
-        assert!(rt; fs::remove_file(&rt, path).is_ok());
-        assert_eq!(rt; (store.loads, store.faults), (4, 0));
-
-        let not_text = word(alloc, b"\xff")?;
-        assert_eq!(rt; store.load(alloc, &name, 9), Err(LoadFault::Fault));
-        assert_eq!(rt; store.load(alloc, &not_text, 9), Err(LoadFault::Fault));
-        assert_eq!(rt; (store.loads, store.faults), (6, 2));
-        Ok(())
-    }
-}

@@ -106,33 +106,3 @@ impl Sink for MemSink {
         }
     }
 }
-
-#[cfg(test)]
-mod tests {
-    use super::*;
-
-    #[test]
-    fn takes_what_fits_and_fails_where_it_is_told(rt: HostRuntime) -> Result<(), Memory> {
-        let alloc = rt.alloc();
-        let mut failing = Seq::new(alloc);
-        failing.push(1)?;
-        let mut sink = MemSink::new(alloc, 5, failing)?;
-        let calls = [
-            ("abc", Ok(()), "abc"),
-            ("d", Err(SinkFault), "abc"),
-            ("de", Ok(()), "abcde"),
-            ("", Ok(()), "abcde"),
-            ("f", Err(SinkFault), "abcde"),
-        ];
-        for (piece, answer, text) in calls {
-            assert_eq!(rt; sink.put(piece.as_bytes()), answer);
-            assert_eq!(rt; sink.text(), text.as_bytes());
-        }
-        assert_eq!(rt; (sink.taken, sink.faults), (5, 2));
-
-        let mut narrow = MemSink::new(alloc, 10, Seq::new(alloc))?;
-        assert_eq!(rt; narrow.put(b"#include <stdint.h>\n"), Err(SinkFault));
-        assert_eq!(rt; narrow.text(), b"#include <".as_slice());
-        Ok(())
-    }
-}

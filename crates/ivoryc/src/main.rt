@@ -16,8 +16,6 @@ mod load;
 mod refusal;
 mod script_fault;
 mod status;
-#[cfg(test)]
-mod tests;
 
 pub use crate::call::ivoryc;
 pub use crate::command::{Command, words_of};

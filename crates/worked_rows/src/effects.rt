@@ -40,6 +40,8 @@ fn a_loop_keeps_its_breaks(rt: HostRuntime) -> Result<(), Memory> {
         alloc,
         StmtKind::NoAlloc(block(alloc, StmtKind::Return(None))?),
     )?;
+    let copy = returning.copy(alloc)?;
+    assert!(rt; copy == returning);
     let found = effects_of(&returning);
     assert_eq!(rt;
         (found.allocs, found.breaks, found.returns),

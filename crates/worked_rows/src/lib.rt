@@ -21,6 +21,8 @@ mod indexes;
 #[cfg(test)]
 mod memory_of_c;
 #[cfg(test)]
+mod numbers;
+#[cfg(test)]
 mod operators;
 #[cfg(test)]
 mod paths;
@@ -31,4 +33,10 @@ mod scripts;
 #[cfg(test)]
 mod sites;
 #[cfg(test)]
+mod stores;
+#[cfg(test)]
+mod streams;
+#[cfg(test)]
 mod tokens;
+#[cfg(test)]
+mod words;

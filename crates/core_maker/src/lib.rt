@@ -2,15 +2,16 @@
 #![tactic(auto)]
 
 mod before;
+mod calls;
 mod expressions;
+mod inits;
 mod joining;
-mod kinds;
 mod leaves;
-mod nodes;
-mod operators;
 mod place;
-mod sites;
-mod types;
 
+pub use calls::call;
+pub use core_parts::{check, first_token, number, owned, stored_type};
 pub use expressions::expression;
-pub use place::Place;
+pub use inits::init;
+pub use leaves::core_type;
+pub use place::{Place, own};

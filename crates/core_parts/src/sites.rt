@@ -1,14 +1,14 @@
 //! New checks: each takes the next number. Where there is no number for it, that is want of memory too.
 
 ghost use Rattle.std.specs.Prelude.{◌≡◌, ◌+◌, [], ◌∷◌, IfOk, OnOk};
-ghost use Rattle.core_maker.specs.Numbered.{kinds_from, kinds_after};
+ghost use Rattle.check_numbers.specs.Numbered.{kinds_from, kinds_after};
 
 use core_tree::{Check, SiteKind};
 use iv_words::{Memory, Seq, Span};
 use std::alloc::Global;
 
 /// A check with the next number.
-pub(crate) fn check(kind: SiteKind, at: Span, next: &mut u32) -> Result<Check, Memory>
+pub fn check(kind: SiteKind, at: Span, next: &mut u32) -> Result<Check, Memory>
     ensures check { IfOk result (λ c. c ≡ record { site = next.old; kind = kind; span = at }) }
     ensures after { OnOk result (next.new ≡ next.old + 1) }
 {

@@ -1,0 +1,9 @@
+//! The values of expressions of resolved modules in code, and the conditions that a run tests.
+#![tactic(auto)]
+
+mod answers;
+mod conditions;
+mod evaluation;
+
+pub use conditions::{choose, test, test_all};
+pub use evaluation::{eval, eval_all};

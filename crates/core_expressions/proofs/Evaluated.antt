@@ -1,10 +1,9 @@
 -- How forms with several operands go on behind their first one, and stop with it.
-use Rattle.std.proofs.Common.{◌≡◌, ℕ, ℤ, List, Bool, true, false, Some, None, Ok, Err, if◌then◌else◌, ap, sym, ◌∙◌, subst}
+use Rattle.std.proofs.Common.{◌≡◌, ℕ, List, Bool, true, false, Some, None, Ok, Err, if◌then◌else◌, ap, sym, subst}
 use Rattle.std.specs.Prelude.{Option, Result}
 use Rattle.std.specs.Option.{option_map}
 use Rattle.run_records.specs.declared.Reason.TheVariants.{Dead}
-use Rattle.step_semantics.specs.Steps as steps
-use Rattle.step_semantics.specs.Steps.{Part, Finished, Halted, NoMeaning, after, bind}
+use Rattle.step_semantics.specs.Steps.{Part, Halted, NoMeaning, after, bind}
 use Rattle.bit_data.specs.Fields.{changed}
 use Rattle.bit_data.specs.declared.BitLayout.{BitLayout}
 use Rattle.core_tree.specs.Syntax.{ModuleCore, Label, ExprCore, SetField, Cond, Whole, type_of}
@@ -16,7 +15,7 @@ use Rattle.core_meaning.specs.Values.{Value}
 use Rattle.core_state.specs.State.{value_of}
 use Rattle.core_state.specs.declared.Value.{Value as CodeValue}
 use Rattle.core_expressions.specs.Chains.{chain_from, steps_from, formed}
-use Rattle.core_expressions.specs.Operands.{on_both, set_by, chosen, Decided}
+use Rattle.core_expressions.specs.Operands.{on_both, set_by, Decided}
 use Rattle.core_expressions.proofs.Linked.{chain_is, steps_are, no_chain}
 use Rattle.run_world.specs.declared.Stopped.{Stopped}
 use Rattle.run_world.specs.declared.World.{World}

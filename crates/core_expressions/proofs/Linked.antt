@@ -11,10 +11,10 @@ use Rattle.core_tree.specs.Syntax.{ModuleCore, Label, ExprCore, Binary, type_of}
 use Rattle.core_tree.specs.View.{LinkCore, StepCore, FieldStep, IndexStep, linked, stepped, part_of}
 use Rattle.core_meaning.specs.Answers.{operation, operator_of}
 use Rattle.core_meaning.specs.Checks.{Answer}
-use Rattle.core_meaning.specs.Expressions.{of_numbers, combined, field_behind, element_behind, eval}
+use Rattle.core_meaning.specs.Expressions.{of_numbers, combined, eval}
 use Rattle.core_meaning.specs.State.{State, seen}
 use Rattle.core_meaning.specs.Values.{Value}
-use Rattle.core_expressions.specs.Chains.{joint_of, operated, joined, link_from, chain_from, step_from, steps_from, type_after, is_formed, formed}
+use Rattle.core_expressions.specs.Chains.{joint_of, operated, joined, link_from, chain_from, step_from, steps_from, is_formed, formed}
 
 both : (a b : Bool) → (a && b) ≡ true → (a ≡ true) × (b ≡ true)
 both true b h = (refl, h)

@@ -1,5 +1,5 @@
 -- Chains and postfixes from left to right: what comes behind the value of the first operand.
-use Rattle.std.specs.Prelude.{ℕ, ℤ, pos, Bool, true, ◌&&◌, is_some, if◌then◌else◌, List, [], ◌∷◌, Option}
+use Rattle.std.specs.Prelude.{ℤ, pos, Bool, true, ◌&&◌, is_some, if◌then◌else◌, List, [], ◌∷◌, Option}
 use Rattle.step_semantics.specs.Steps.{Part, give, bind}
 use Rattle.ivory_tree.specs.declared.BinOp.{BinOp}
 use Rattle.ivory_tree.specs.declared.BinOp.TheVariants.{OrElse, AndAlso}

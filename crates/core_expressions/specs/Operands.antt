@@ -14,9 +14,8 @@ use Rattle.core_meaning.specs.State.{State, seen}
 use Rattle.core_meaning.specs.Values.{Value, Num, Ref}
 use Rattle.core_state.specs.State.{value_of}
 use Rattle.core_state.specs.declared.Value.{Value as CodeValue}
-use Rattle.core_expressions.specs.Forms.{unary_answer, binary_answer}
+use Rattle.core_expressions.specs.Forms.{unary_answer}
 use Rattle.core_expressions.specs.declared.answers.Unary.{Unary}
-use Rattle.core_expressions.specs.declared.answers.Binary.{Binary}
 use Rattle.run_world.specs.Comes.{world_of, Comes}
 use Rattle.run_world.specs.declared.Halt.TheVariants.{NoMeaning}
 use Rattle.run_world.specs.declared.Stopped.{Stopped}

@@ -1,4 +1,4 @@
-use Rattle.std.proofs.Common.{◌≡◌, ◌∙◌, sym, ap, subst, rules, Some}
+use Rattle.std.proofs.Common.{◌∙◌, sym, ap, subst, rules, Some}
 use Rattle.std.specs.Prelude.{Option, ℤ}
 use Rattle.std.specs.Option.{option_and_then}
 use Rattle.std.specs.Int.{w128}
@@ -7,7 +7,7 @@ use Rattle.std.proofs.lemmas.Int.{to_z-of_z}
 use Rattle.step_semantics.specs.Steps.{give, tick, by_state}
 use Rattle.core_meaning.specs.Areas.{held_at, number_at, number_in}
 use Rattle.core_meaning.specs.Checks.{on_some, on_reference}
-use Rattle.core_meaning.specs.State.{State, seen}
+use Rattle.core_meaning.specs.State.{seen}
 use Rattle.core_meaning.specs.Values.{Value, Num}
 use Rattle.core_state.specs.State.{value_of}
 use Rattle.core_state.specs.Types.{held_of}

@@ -1,5 +1,0 @@
-pub mod Views
-pub mod Rows
-pub mod Structs
-pub mod Places
-pub mod Answering

@@ -1,0 +1,14 @@
+//! The state of a run of a resolved module in code: what areas hold and how they are laid out, names, and values.
+#![tactic(auto)]
+
+mod held;
+mod program;
+mod state;
+mod value;
+mod written;
+
+pub use held::Held;
+pub use program::Program;
+pub use state::{Frame, HeldArea, Name, Slot, State};
+pub use value::Value;
+pub use written::Written;

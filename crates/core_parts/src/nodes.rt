@@ -23,6 +23,7 @@ fn plain(alloc: Global, kind: CoreKind, ty: ValueType) -> CoreExpr
     }
 }
 
+/// A number of that type.
 #[tactic(auto, using(core_tree::proofs::View::number_is))]
 pub fn number(alloc: Global, ty: ValueType, value: i128) -> CoreExpr
     ensures { tree.expr_of result ≡ core_syntax.Number (labelled ty []) value }
@@ -30,6 +31,7 @@ pub fn number(alloc: Global, ty: ValueType, value: i128) -> CoreExpr
     plain(alloc, CoreKind::Number(value), ty)
 }
 
+/// The result of the procedure, in an `ensures`.
 #[tactic(auto, using(core_tree::proofs::View::outcome_is))]
 pub fn outcome(alloc: Global, ty: ValueType) -> CoreExpr
     ensures { tree.expr_of result ≡ core_syntax.Outcome (labelled ty []) }
@@ -37,6 +39,7 @@ pub fn outcome(alloc: Global, ty: ValueType) -> CoreExpr
     plain(alloc, CoreKind::Outcome, ty)
 }
 
+/// The local of that number.
 #[tactic(auto, using(core_tree::proofs::View::local_is))]
 pub fn local(alloc: Global, ty: ValueType, number: u32) -> CoreExpr
     ensures { tree.expr_of result ≡ core_syntax.Local (labelled ty []) number }
@@ -44,6 +47,7 @@ pub fn local(alloc: Global, ty: ValueType, number: u32) -> CoreExpr
     plain(alloc, CoreKind::Local(number), ty)
 }
 
+/// A reference to the area of that number.
 #[tactic(auto, using(core_tree::proofs::View::area_name_is))]
 pub fn area_name(alloc: Global, ty: ValueType, number: u32) -> CoreExpr
     ensures { tree.expr_of result ≡ core_syntax.AreaName (labelled ty []) number }
@@ -51,6 +55,7 @@ pub fn area_name(alloc: Global, ty: ValueType, number: u32) -> CoreExpr
     plain(alloc, CoreKind::AreaName(number), ty)
 }
 
+/// A conversion to an integer type.
 #[tactic(auto, using(core_tree::proofs::View::cast_is))]
 pub fn cast(
     alloc: Global,
@@ -64,6 +69,7 @@ pub fn cast(
     Ok(CoreExpr { kind, ty, checks })
 }
 
+/// A checked conversion to an index.
 #[tactic(auto, using(core_tree::proofs::View::to_index_is))]
 pub fn to_index(
     alloc: Global,
@@ -77,6 +83,7 @@ pub fn to_index(
     Ok(CoreExpr { kind, ty, checks })
 }
 
+/// An index by the remainder.
 #[tactic(auto, using(core_tree::proofs::View::wrap_index_is))]
 pub fn wrap_index(alloc: Global, ty: ValueType, operand: CoreExpr) -> Result<CoreExpr, Memory>
     ensures { IfOk result (λ c. tree.expr_of c ≡ core_syntax.WrapIndex (labelled ty []) (tree.expr_of operand)) }
@@ -85,6 +92,7 @@ pub fn wrap_index(alloc: Global, ty: ValueType, operand: CoreExpr) -> Result<Cor
     Ok(plain(alloc, kind, ty))
 }
 
+/// Bit data of a word.
 #[tactic(auto, using(core_tree::proofs::View::make_bits_is))]
 pub fn make_bits(alloc: Global, ty: ValueType, word: CoreExpr) -> Result<CoreExpr, Memory>
     ensures { IfOk result (λ c. tree.expr_of c ≡ core_syntax.MakeBits (labelled ty []) (tree.expr_of word)) }
@@ -93,6 +101,7 @@ pub fn make_bits(alloc: Global, ty: ValueType, word: CoreExpr) -> Result<CoreExp
     Ok(plain(alloc, kind, ty))
 }
 
+/// The word of bit data.
 #[tactic(auto, using(core_tree::proofs::View::raw_is))]
 pub fn raw(alloc: Global, ty: ValueType, bits: CoreExpr) -> Result<CoreExpr, Memory>
     ensures { IfOk result (λ c. tree.expr_of c ≡ core_syntax.Raw (labelled ty []) (tree.expr_of bits)) }
@@ -101,6 +110,7 @@ pub fn raw(alloc: Global, ty: ValueType, bits: CoreExpr) -> Result<CoreExpr, Mem
     Ok(plain(alloc, kind, ty))
 }
 
+/// Bit data with another value of a field.
 #[tactic(auto, using(core_tree::proofs::View::set_field_is))]
 pub fn set_field(
     alloc: Global,
@@ -117,6 +127,7 @@ pub fn set_field(
     Ok(CoreExpr { kind, ty, checks })
 }
 
+/// An operator before its operand.
 #[tactic(auto, using(core_tree::proofs::View::prefix_is))]
 pub fn prefix(
     alloc: Global,
@@ -131,6 +142,7 @@ pub fn prefix(
     Ok(CoreExpr { kind, ty, checks })
 }
 
+/// `?:` with its test and both arms.
 #[tactic(auto, using(core_tree::proofs::View::cond_is))]
 pub fn cond(
     alloc: Global,
@@ -175,6 +187,7 @@ pub fn postfix(
     Ok(plain(alloc, kind, ty))
 }
 
+/// An operator with its right operand.
 #[tactic(auto, using(core_tree::proofs::View::link_is))]
 pub fn link(ty: ValueType, checks: Seq<Check>, op: BinOp, right: CoreExpr) -> CoreLink
     ensures { tree.link_of result ≡ record { label = labelled ty checks; op = op; right = tree.expr_of right } }
@@ -187,6 +200,7 @@ pub fn link(ty: ValueType, checks: Seq<Check>, op: BinOp, right: CoreExpr) -> Co
     }
 }
 
+/// The step to a field.
 #[tactic(auto, using(core_tree::proofs::View::field_step_is))]
 pub fn field_step(ty: ValueType, number: u32) -> CoreStep
     ensures { tree.step_of result ≡ tree.FieldStep (type_of ty) number }
@@ -194,6 +208,7 @@ pub fn field_step(ty: ValueType, number: u32) -> CoreStep
     CoreStep::Field(number, ty)
 }
 
+/// The step to an element.
 #[tactic(auto, using(core_tree::proofs::View::index_step_is))]
 pub fn index_step(ty: ValueType, index: CoreExpr) -> CoreStep
     ensures { tree.step_of result ≡ tree.IndexStep (type_of ty) (tree.expr_of index) }

@@ -17,5 +17,8 @@ mod types;
 pub use calls::call;
 pub use expressions::expression;
 pub use inits::init;
+pub use kinds::first_token;
+pub use leaves::core_type;
 pub use place::{Place, own};
+pub use sites::check;
 pub use types::{number, owned, stored_type};

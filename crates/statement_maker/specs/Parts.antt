@@ -2,6 +2,7 @@
 use Rattle.std.specs.Prelude.{ℕ, List, [], ◌∷◌, Option}
 use Rattle.iv_words.specs.declared.Span.{Span}
 use Rattle.ivory_tree.specs.Syntax.{ExprSyntax, AreaSyntax, InitSyntax, StmtSyntax, BlockSyntax}
+use Rattle.area_types.specs.Syntax as types
 use Rattle.area_types.specs.Syntax.{Area}
 use Rattle.alloc_effects.specs.declared.allowed.Allowed.{Allowed}
 use Rattle.core_tree.specs.Syntax as core
@@ -11,6 +12,7 @@ use Rattle.source_types.specs.Written.{area_in}
 use Rattle.typing_rules.specs.Environments.{Env, next, after_block}
 use Rattle.typing_rules.specs.ExpressionCores.{any_type, type_or, core_of}
 use Rattle.typing_rules.specs.StatementCores.{area_or, maybe_init_core, stmt_core, stmt_after, block_last}
+use Rattle.check_numbers.specs.Numbered.{expr_after}
 use Rattle.check_numbers.specs.NumberedParts.{maybe_init_from, maybe_init_after}
 
 abbrev pub area_named : Env → AreaSyntax → Area
@@ -26,6 +28,10 @@ alloc_after n env area init = maybe_init_after n (maybe_init_core env area init)
 -- the value is wanted as what the target holds
 abbrev pub store_core : Env → (target value : ExprSyntax) → StmtCore
 store_core env target value = core.Store (core_of env any_type target) (core_of env (type_or (stored_type (type_of (core_of env any_type target)))) value)
+
+-- the number behind a test
+abbrev pub test_after : ℕ → Env → ExprSyntax → ℕ
+test_after n env test = expr_after n (core_of env types.Truth test)
 
 -- in a block in which this is allowed
 abbrev pub allowing : Env → Allowed → Env

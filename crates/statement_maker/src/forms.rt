@@ -22,7 +22,9 @@ ghost use Rattle.statement_maker.specs.Places.{Stays};
 use crate::nodes;
 use crate::scope::add_name;
 use area_types::{Area, Region, ValueType};
-use core_maker::{Place, call, check, core_type, expression, first_token, init, owned, stored_type};
+use core_maker::{
+    Place, call, check, core_type, expression, first_token, init, owned, stored_type,
+};
 use core_tree::{CoreExpr, CoreInit, CoreStmt, SiteKind};
 use iv_words::{Box, Memory, Name, Span};
 use ivory_tree::{AreaText, CallText, Expr, InitText};

@@ -11,6 +11,7 @@ use iv_words::{Memory, Seq};
 use std::alloc::Global;
 
 /// Numbers that are left to be put into cells. Behind the last of them come zeros.
+#[derive(Drop)]
 pub struct Numbers<'a> {
     pub rest: &'a [i128],
 }

@@ -7,11 +7,12 @@ use Rattle.step_semantics.specs.Steps as steps
 use Rattle.step_semantics.specs.Steps.{Part, Finished, Halted, FailedCheck, NoMeaning, give, halt, tick}
 use Rattle.core_tree.specs.declared.Check.{Check}
 use Rattle.core_tree.specs.declared.SiteKind.{SiteKind}
-use Rattle.core_tree.specs.Syntax.{ModuleCore, Label}
+use Rattle.core_tree.specs.Syntax.{ModuleCore}
 use Rattle.core_meaning.specs.Values.{Num}
 use Rattle.core_meaning.specs.State.{State, seen}
-use Rattle.core_meaning.specs.Checks.{Answer, same_kind, passes, tests_of, covered, answering, formless}
+use Rattle.core_meaning.specs.Checks.{Answer, same_kind, passes, tests_of, covered, formless}
 use Rattle.core_expressions.specs.Forms.{first_site}
+use Rattle.core_expressions.specs.Operands.{answering_by}
 
 pub tick_same : {A : Type 0} (f g : Part State A) (n : ℕ) (w : steps.World) (s : State) → ((m : ℕ) → f m w s ≡ g m w s) → tick f n w s ≡ tick g n w s
 tick_same f g zero w s h = refl
@@ -40,17 +41,17 @@ none_covers kind (c ∷ cs) h =
     (elim (same_kind kind c.kind) as (λ b. (if b then Some c.site else first_site cs kind) ≡ None → (b || list_any (λ d. same_kind kind d.kind) cs) ≡ false)
     [ true ↦ λ e. (let no : ⊥ = cc e in absurd no) | false ↦ λ e. none_covers kind cs e ]) h
 
-module _ (core : ModuleCore) (l : Label) (n : ℕ) (w : steps.World) (s : State) where
-  pub answers_number : (answer : Answer) (v : ℤ) → answer ≡ Ok v → answering core l answer n w s ≡ tick (give (Num v)) n w s
-  answers_number answer v e = ap (λ a. answering core l a n w s) e ∙ tick_same (passes core (tests_of (Ok v) l.checks) (give (Num v))) (give (Num v)) n w s (λ m. all_pass core v l.checks (give (Num v)) m w s)
+module _ (core : ModuleCore) (checks : List Check) (n : ℕ) (w : steps.World) (s : State) where
+  pub answers_number : (answer : Answer) (v : ℤ) → answer ≡ Ok v → answering_by core checks answer n w s ≡ tick (give (Num v)) n w s
+  answers_number answer v e = ap (λ a. answering_by core checks a n w s) e ∙ tick_same (passes core (tests_of (Ok v) checks) (give (Num v))) (give (Num v)) n w s (λ m. all_pass core v checks (give (Num v)) m w s)
 
-  pub answers_failure : (answer : Answer) (kind : SiteKind) (site : ℕ) → answer ≡ Err kind → first_site l.checks kind ≡ Some site → answering core l answer n w s ≡ tick (halt (seen core) (FailedCheck site)) n w s
+  pub answers_failure : (answer : Answer) (kind : SiteKind) (site : ℕ) → answer ≡ Err kind → first_site checks kind ≡ Some site → answering_by core checks answer n w s ≡ tick (halt (seen core) (FailedCheck site)) n w s
   answers_failure answer kind site e h =
-      ap (λ a. answering core l a n w s) e
-      ∙ ap (λ (b : Bool). (if b then tick (passes core (tests_of (Err kind) l.checks) (formless core)) else formless core) n w s) (first_covers kind site l.checks h)
-      ∙ tick_same (passes core (tests_of (Err kind) l.checks) (formless core)) (halt (seen core) (FailedCheck site)) n w s (λ m. first_fails core kind site l.checks (formless core) m w s h)
+      ap (λ a. answering_by core checks a n w s) e
+      ∙ ap (λ (b : Bool). (if b then tick (passes core (tests_of (Err kind) checks) (formless core)) else formless core) n w s) (first_covers kind site checks h)
+      ∙ tick_same (passes core (tests_of (Err kind) checks) (formless core)) (halt (seen core) (FailedCheck site)) n w s (λ m. first_fails core kind site checks (formless core) m w s h)
 
-  pub answers_nothing : (answer : Answer) (kind : SiteKind) → answer ≡ Err kind → first_site l.checks kind ≡ None → answering core l answer n w s ≡ Halted (NoMeaning Dead) w (seen core s)
+  pub answers_nothing : (answer : Answer) (kind : SiteKind) → answer ≡ Err kind → first_site checks kind ≡ None → answering_by core checks answer n w s ≡ Halted (NoMeaning Dead) w (seen core s)
   answers_nothing answer kind e h =
-      ap (λ a. answering core l a n w s) e
-      ∙ ap (λ (b : Bool). (if b then tick (passes core (tests_of (Err kind) l.checks) (formless core)) else formless core) n w s) (none_covers kind l.checks h)
+      ap (λ a. answering_by core checks a n w s) e
+      ∙ ap (λ (b : Bool). (if b then tick (passes core (tests_of (Err kind) checks) (formless core)) else formless core) n w s) (none_covers kind checks h)

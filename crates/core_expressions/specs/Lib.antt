@@ -1,2 +1,5 @@
-pub mod Forms
 pub mod Reads
+pub mod Scopes
+pub mod Forms
+pub mod Operands
+pub mod Chains

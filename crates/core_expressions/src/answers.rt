@@ -1,28 +1,25 @@
 //! What the forms on numbers answer, by the types of their operands, and the checks that an answer passes.
 
-ghost use Rattle.std.specs.Prelude.{◌≡◌, ◌&&◌, if◌then◌else◌, List};
+ghost use Rattle.std.specs.Prelude.{◌≡◌, ◌&&◌, if◌then◌else◌};
 ghost use Rattle.std.specs.Option.{option_map};
 ghost use Rattle.iv_words.specs.Kinds.{in_range};
 ghost use Rattle.iv_words.specs.declared.IntKind.TheVariants.{U16};
-ghost use Rattle.area_types.specs.Syntax as syntax;
 ghost use Rattle.area_types.specs.View.{type_of};
-ghost use Rattle.core_tree.specs.Syntax.{ModuleCore};
-ghost use Rattle.core_meaning.specs.Checks as meaning;
 ghost use Rattle.core_meaning.specs.Answers as answers;
-ghost use Rattle.core_meaning.specs.State.{State, seen};
+ghost use Rattle.core_meaning.specs.State.{seen};
 ghost use Rattle.core_meaning.specs.Values.{Num};
-ghost use Rattle.run_records.specs.declared.AreaCells.{AreaCells};
 ghost use Rattle.step_semantics.specs.Steps.{FailedCheck, halt, give, tick};
-ghost use Rattle.run_world.specs.Comes.{world_of, Comes};
 ghost use Rattle.core_state.specs.State.{value_of};
+ghost use Rattle.core_expressions.specs.Operands.{answering_by};
+ghost use Rattle.core_expressions.specs.Scopes.{core_in, Gives};
 ghost use Rattle.core_expressions.specs.Forms.{unary_answer, binary_answer, first_site, NoHalt};
 
+use crate::scope::Scope;
 use area_types::ValueType;
 use core_state::Value;
 use core_tree::{Check, SiteKind};
 use int_ops::{Op, Stop};
 use iv_words::IntKind;
-use ivory_tree::BinOp;
 use run_records::Reason;
 use run_world::{Halt, Stopped, World};
 
@@ -32,6 +29,13 @@ pub(crate) fn not_followed() -> Stopped
     ensures { result ≡ Stopped.Memory }
 {
     Stopped::Memory
+}
+
+/// A form that no valid module has: the run has no meaning.
+pub(crate) fn formless() -> Stopped
+    ensures { result ≡ Stopped.Halted (Halt.NoMeaning Reason.Dead) }
+{
+    Stopped::Halted(Halt::NoMeaning(Reason::Dead))
 }
 
 /// A form on one number.
@@ -140,33 +144,6 @@ fn compared(op: Op, compares: bool) -> Option<Binary>
     }
 }
 
-/// The operator on numbers, where the source has one.
-pub(crate) fn operator_of(op: BinOp) -> Op
-    ensures { result ≡ answers.operator_of op }
-{
-    match op {
-        BinOp::OrElse | BinOp::Or => Op::Or,
-        BinOp::AndAlso | BinOp::And => Op::And,
-        BinOp::Xor => Op::Xor,
-        BinOp::Eq => Op::Eq,
-        BinOp::Ne => Op::Ne,
-        BinOp::Lt => Op::Lt,
-        BinOp::Le => Op::Le,
-        BinOp::Gt => Op::Gt,
-        BinOp::Ge => Op::Ge,
-        BinOp::Shl => Op::Shl,
-        BinOp::Shr => Op::Shr,
-        BinOp::Add => Op::Add,
-        BinOp::Sub => Op::Sub,
-        BinOp::WrapAdd => Op::WrapAdd,
-        BinOp::WrapSub => Op::WrapSub,
-        BinOp::Mul => Op::Mul,
-        BinOp::Div => Op::Div,
-        BinOp::Rem => Op::Rem,
-        BinOp::WrapMul => Op::WrapMul,
-    }
-}
-
 fn site_of(stop: Stop) -> SiteKind
     ensures { result ≡ answers.site_of stop }
 {
@@ -241,32 +218,33 @@ fn first_site(checks: &[Check], kind: SiteKind) -> Option<u32>
 
 /// A form that answers a number: its step, its checks, and then the number.
 pub(crate) fn answering(
+    scope: &Scope,
     world: &mut World,
     checks: &[Check],
     answer: &Result<i128, SiteKind>,
 ) -> Result<Value, Stopped>
-    ensures { (core : ModuleCore) (ty : syntax.ValueType) (s : State) → Comes (seen core) value_of (meaning.answering core (record { ty = ty; checks = checks.now }) answer.now world.old.steps (world_of world.old) s) result world.new s }
+    ensures { Gives scope.now value_of (answering_by (core_in scope.now) checks.now answer.now) world.old result world.new }
 {
     match answer {
-        Ok(v) => number(world, *v),
+        Ok(v) => number(scope, world, *v),
         Err(kind) => match first_site(checks, *kind) {
-            Some(site) => failure(world, site),
-            None => Err(Stopped::Halted(Halt::NoMeaning(Reason::Dead))),
+            Some(site) => failure(scope, world, site),
+            None => Err(formless()),
         },
     }
 }
 
 /// A step, and then the number.
-pub(crate) fn number(world: &mut World, v: i128) -> Result<Value, Stopped>
-    ensures { (see : State → List AreaCells) (s : State) → Comes see value_of (tick (give (Num v)) world.old.steps (world_of world.old) s) result world.new s }
+pub(crate) fn number(scope: &Scope, world: &mut World, v: i128) -> Result<Value, Stopped>
+    ensures { Gives scope.now value_of (tick (give (Num v))) world.old result world.new }
 {
     world.tick()?;
     Ok(Value::Num(v))
 }
 
 /// A step, and then the check of the site fails.
-fn failure(world: &mut World, site: u32) -> Result<Value, Stopped>
-    ensures { (see : State → List AreaCells) (s : State) → Comes see value_of (tick (halt see (FailedCheck site)) world.old.steps (world_of world.old) s) result world.new s }
+fn failure(scope: &Scope, world: &mut World, site: u32) -> Result<Value, Stopped>
+    ensures { Gives scope.now value_of (tick (halt (seen (core_in scope.now)) (FailedCheck site))) world.old result world.new }
 {
     world.tick()?;
     Err(Stopped::Halted(Halt::FailedCheck(site)))

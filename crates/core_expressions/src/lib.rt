@@ -2,8 +2,13 @@
 #![tactic(auto)]
 
 mod answers;
+mod chains;
 mod conditions;
 mod evaluation;
+mod fields;
+mod operands;
+mod reads;
+mod scope;
 
 pub use conditions::{choose, test, test_all};
 pub use evaluation::{eval, eval_all};

@@ -1,20 +1,28 @@
 //! Cores that can be run, and whole runs.
 
-ghost use Rattle.std.specs.Prelude.{◌≡◌, ◌+◌, length, Err, IfOk, OnOk, OnErr};
+ghost use Rattle.std.specs.Prelude.{◌≡◌, ◌+◌, if◌then◌else◌, [], length, Err, IfOk, OnOk, OnErr};
 ghost use Rattle.iv_base.specs.Counts.{capped};
 ghost use Rattle.iv_base.specs.Sinks.{grown, GrewByPrefix};
 ghost use Rattle.iv_script.specs.Report.{report};
 ghost use Rattle.core_tree.specs.Cores.{core_of};
 ghost use Rattle.core_meaning.specs.Run.{run_src};
+ghost use Rattle.core_meaning.specs.State.{seen};
+ghost use Rattle.core_state.specs.State.{state_of};
+ghost use Rattle.run_world.specs.Comes.{shows_areas};
 ghost use Rattle.core_run.specs.Reports.{HasSinkCause};
 ghost use Rattle.core_run.specs.declared.ready.RunError.TheVariants.{Memory as memory};
 
-use core_state::Program;
+use crate::areas::areas_of;
+use crate::entries::run_calls;
+use crate::start::first_state;
+use core_state::{Program, State};
+use core_statements::Run;
 use core_tree::Core;
 use iv_base::{Sink, SinkFault};
 use iv_script::write_report;
-use iv_words::Memory;
-use run_records::{End, Outcome, Script};
+use iv_words::{Memory, Seq};
+use run_records::{AreaCells, End, Outcome, Script};
+use run_world::{World, end_after, shows_areas};
 use std::alloc::Global;
 use std::marker::Model;
 
@@ -80,16 +88,40 @@ pub fn prepare(alloc: Global, core: Core) -> Result<Ready, Memory>
     })
 }
 
-/// The run of a script.
-fn outcome_of(
-    _alloc: Global,
-    _program: &Program,
-    _script: &Script,
-    _n: u64,
-) -> Result<Outcome, Memory>
-    ensures { IfOk result (λ o. o ≡ run_src (core_of _program.now) _script.now _n) }
+/// The areas that a run with this end shows.
+fn shown_areas(
+    alloc: Global,
+    program: &Program,
+    state: &State,
+    end: End,
+) -> Result<Seq<AreaCells>, Memory>
+    ensures { IfOk result (λ areas. areas ≡ (if shows_areas end then seen (core_of program.now) (state_of state.now) else [])) }
 {
-    Err(Memory)
+    if shows_areas(end) {
+        areas_of(alloc, program, state)
+    } else {
+        Ok(Seq::new(alloc))
+    }
+}
+
+/// The run of a script.
+fn outcome_of(alloc: Global, program: &Program, script: &Script, n: u64) -> Result<Outcome, Memory>
+    ensures { IfOk result (λ o. o ≡ run_src (core_of program.now) script.now n) }
+{
+    let state = first_state(alloc, program)?;
+    let world = World::start(alloc, script, n)?;
+    let mut run = Run { state, world };
+    let calls = run_calls(alloc, program, &mut run, script.calls.as_slice());
+    let end = end_after(calls)?;
+    let areas = shown_areas(alloc, program, &run.state, end)?;
+    let Run { state: _, world } = run;
+    let World {
+        events,
+        steps: _,
+        replies: _,
+        taken: _,
+    } = world;
+    Ok(Outcome { events, end, areas })
 }
 
 impl Ready {

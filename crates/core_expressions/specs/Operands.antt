@@ -2,14 +2,14 @@
 use Rattle.std.specs.Prelude.{◌≡◌, ℕ, suc, ℤ, pos, Bool, true, not, is_some, if◌then◌else◌, List, Option, Some, None, Result, Ok, Err}
 use Rattle.std.specs.Ordering.{int_eq}
 use Rattle.run_records.specs.declared.Reason.TheVariants.{Dead}
-use Rattle.step_semantics.specs.Steps.{Part, Progress, after, bind, tick}
+use Rattle.step_semantics.specs.Steps.{Part, Progress, give, after, bind, tick, by_state}
 use Rattle.bit_data.specs.Fields.{changed}
 use Rattle.bit_data.specs.declared.BitLayout.{BitLayout}
 use Rattle.core_tree.specs.declared.Check.{Check}
 use Rattle.core_tree.specs.Syntax.{ModuleCore}
 use Rattle.core_meaning.specs.Answers.{changing}
-use Rattle.core_meaning.specs.Areas.{Areas, type_at}
-use Rattle.core_meaning.specs.Checks.{Answer, covered, passes, tests_of, answered, formless, on_number, on_truth, on_some}
+use Rattle.core_meaning.specs.Areas.{Areas, type_at, number_at}
+use Rattle.core_meaning.specs.Checks.{Answer, covered, passes, tests_of, answered, formless, on_number, on_truth, on_reference, on_some}
 use Rattle.core_meaning.specs.State.{State, seen}
 use Rattle.core_meaning.specs.Values.{Value, Num, Ref}
 use Rattle.core_state.specs.State.{value_of}
@@ -53,6 +53,10 @@ set_by layout field word x = changing (changed layout field word x)
 
 abbrev pub of_number_by : ModuleCore → List Check → Option (ℤ → Answer) → Part State Value → Part State Value
 of_number_by core checks form part = on_some core form (λ answer. bind part (λ x. on_number core x (λ a. answering_by core checks (answer a))))
+
+-- `*r`: the number in the cell
+abbrev pub in_cell : ModuleCore → Value → Part State Value
+in_cell core x = on_reference core x (λ k path. by_state (λ s. on_some core (number_at s.areas k path) (λ v. tick (give (Num v)))))
 
 -- ---- choices
 

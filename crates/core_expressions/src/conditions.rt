@@ -1,7 +1,6 @@
 //! Conditions: what is chosen by one, and those at which a run stops.
 
 ghost use Rattle.std.specs.Prelude.{◌≡◌, map, not, if◌then◌else◌, None, Ok, Err};
-ghost use Rattle.std.specs.List.{filter};
 ghost use Rattle.std.specs.Option.{option_map};
 ghost use Rattle.step_semantics.specs.Steps.{give};
 ghost use Rattle.core_tree.specs.Cores.{core_of};
@@ -9,7 +8,7 @@ ghost use Rattle.core_tree.specs.View.{expr_of, contract_of};
 ghost use Rattle.core_meaning.specs.Conditions as meaning;
 ghost use Rattle.core_meaning.specs.Expressions as expressions;
 ghost use Rattle.core_state.specs.State.{value_of};
-ghost use Rattle.core_expressions.specs.Reads.{Reads, with_truth};
+ghost use Rattle.core_expressions.specs.Reads.{Reads, with_truth, standing};
 ghost use Rattle.run_world.specs.Comes.{itself};
 
 use crate::evaluation::eval;
@@ -76,7 +75,7 @@ pub fn test_all(
     contracts: &[CoreContract],
     before: bool,
 ) -> Result<(), Stopped>
-    ensures { Reads program.now itself (meaning.tested_all (core_of program.now) (option_map value_of outcome.now) (filter (λ c. if before then c.before else not c.before) (map contract_of contracts.now))) state.now world.old result world.new }
+    ensures { Reads program.now itself (meaning.tested_all (core_of program.now) (option_map value_of outcome.now) (standing before (map contract_of contracts.now))) state.now world.old result world.new }
 {
     for contract in contracts {
         if counts(contract, before) {

@@ -11,7 +11,7 @@ ghost use Rattle.core_expressions.specs.Chains.{link_from, chain_from, step_from
 ghost use Rattle.core_expressions.specs.Forms.{unary_answer};
 ghost use Rattle.core_expressions.specs.Operands.{of_number_by};
 ghost use Rattle.core_expressions.specs.Reads.{Reads};
-ghost use Rattle.core_expressions.specs.Scopes.{core_in, outcome_in, Gives};
+ghost use Rattle.core_expressions.specs.Scopes.{core_in, outcome_in, part_of, Gives};
 
 use crate::answers::{Unary, cast_to, formless, index_to, operation, prefix_operation, wrapped_to};
 use crate::chains::{Joint, formed, joint_of, type_after, type_of};
@@ -48,7 +48,7 @@ pub fn eval(
 
 #[cycle(values)]
 fn value(alloc: Global, scope: &Scope, world: &mut World, e: &CoreExpr) -> Result<Value, Stopped>
-    ensures { Gives scope.now value_of (meaning.eval (core_in scope.now) (outcome_in scope.now) (expr_of e.now)) world.old result world.new }
+    ensures { Gives scope.now value_of (part_of scope.now (expr_of e.now)) world.old result world.new }
 {
     let checks = e.checks.as_slice();
     match &e.kind {
@@ -120,7 +120,7 @@ fn of_number(
     form: Option<Unary>,
     checks: &[Check],
 ) -> Result<Value, Stopped>
-    ensures { Gives scope.now value_of (of_number_by (core_in scope.now) checks.now (option_map unary_answer form) (meaning.eval (core_in scope.now) (outcome_in scope.now) (expr_of e.now))) world.old result world.new }
+    ensures { Gives scope.now value_of (of_number_by (core_in scope.now) checks.now (option_map unary_answer form) (part_of scope.now (expr_of e.now))) world.old result world.new }
 {
     let Some(form) = form else {
         return Err(formless());
@@ -132,7 +132,7 @@ fn of_number(
 /// `!e`.
 #[cycle(values)]
 fn negation(alloc: Global, scope: &Scope, world: &mut World, e: &CoreExpr) -> Result<Value, Stopped>
-    ensures { Gives scope.now value_of (meaning.negated (core_in scope.now) (meaning.eval (core_in scope.now) (outcome_in scope.now) (expr_of e.now))) world.old result world.new }
+    ensures { Gives scope.now value_of (meaning.negated (core_in scope.now) (part_of scope.now (expr_of e.now))) world.old result world.new }
 {
     let x = value(alloc, scope, world, e)?;
     negated(scope, world, &x)
@@ -146,7 +146,7 @@ fn dereference(
     world: &mut World,
     e: &CoreExpr,
 ) -> Result<Value, Stopped>
-    ensures { Gives scope.now value_of (meaning.number_behind (core_in scope.now) (meaning.eval (core_in scope.now) (outcome_in scope.now) (expr_of e.now))) world.old result world.new }
+    ensures { Gives scope.now value_of (meaning.number_behind (core_in scope.now) (part_of scope.now (expr_of e.now))) world.old result world.new }
 {
     let x = value(alloc, scope, world, e)?;
     cell(scope, world, &x)

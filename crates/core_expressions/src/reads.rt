@@ -1,15 +1,14 @@
 //! What names and references come to in a state, and how they are led on.
 
 ghost use Rattle.std.specs.Prelude.{◌≡◌, [], Some};
-ghost use Rattle.step_semantics.specs.Steps.{give, tick, by_state};
+ghost use Rattle.step_semantics.specs.Steps.{give, tick};
 ghost use Rattle.area_types.specs.View.{type_of};
-ghost use Rattle.core_meaning.specs.Areas.{number_at};
-ghost use Rattle.core_meaning.specs.Checks.{on_reference, on_some};
+ghost use Rattle.core_meaning.specs.Checks.{on_some};
 ghost use Rattle.core_meaning.specs.Expressions as meaning;
 ghost use Rattle.core_meaning.specs.State as states;
-ghost use Rattle.core_meaning.specs.Values.{Num, Ref};
+ghost use Rattle.core_meaning.specs.Values.{Ref};
 ghost use Rattle.core_state.specs.State.{value_of, state_of};
-ghost use Rattle.core_expressions.specs.Operands.{leads};
+ghost use Rattle.core_expressions.specs.Operands.{leads, in_cell};
 ghost use Rattle.core_expressions.specs.Scopes.{core_in, outcome_in, Gives, Finds};
 
 use crate::answers::{formless, not_followed, number};
@@ -77,7 +76,7 @@ pub(crate) fn read_area(alloc: Global, scope: &Scope, area: usize) -> Result<Val
 
 /// `*r`: the number in the cell.
 pub(crate) fn cell(scope: &Scope, world: &mut World, x: &Value) -> Result<Value, Stopped>
-    ensures { Gives scope.now value_of (on_reference (core_in scope.now) (value_of x.now) (λ k path. by_state (λ s. on_some (core_in scope.now) (number_at s.areas k path) (λ v. tick (give (Num v)))))) world.old result world.new }
+    ensures { Gives scope.now value_of (in_cell (core_in scope.now) (value_of x.now)) world.old result world.new }
 {
     let Value::Ref(area, path) = x else {
         return Err(formless());

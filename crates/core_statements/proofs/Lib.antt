@@ -1,0 +1,3 @@
+pub mod Inits
+pub mod Lists
+pub mod Written

@@ -1,0 +1,4 @@
+pub mod Parts
+pub mod Initial
+pub mod Replies
+pub mod Simple

@@ -14,7 +14,7 @@ use Rattle.core_maker.specs.Places.{scope_of, env_of, Agrees}
 use Rattle.core_maker.specs.declared.place.Place.{Place}
 
 pub own_is : (p : Place) (e : ExprSyntax) {o : Option ValueType} → Agrees p → o ≡ own_type (checker.context_of p.context) e → type_or o ≡ own (env_of p) e
-own_is p e a h = ap type_or h ∙ ap (λ c. type_or (own_type c e)) (sym a)
+own_is p e a h = ap type_or h ∙ ap (λ c. type_or (own_type c e)) (sym a.known)
 
 one_more : (i : ℕ) → i + 1 ≡ suc i
 one_more i = omega arith

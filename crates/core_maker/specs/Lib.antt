@@ -5,3 +5,5 @@ pub mod Opened
 pub mod Chains
 pub mod Postfixes
 pub mod Forms
+pub mod NumberedParts
+pub mod Initializers

@@ -1,5 +1,5 @@
 -- What the code knows at a place, as the typing sees it. It agrees with what the rules see there: each name in scope has a type and a number.
-use Rattle.std.specs.Prelude.{◌≡◌, ℕ, List, [], ◌∷◌, map, option_map}
+use Rattle.std.specs.Prelude.{◌≡◌, ℕ, List, [], ◌∷◌, map, length, option_map}
 use Rattle.area_types.specs.View.{type_of}
 use Rattle.typing_rules.specs.Environments as typing
 use Rattle.typing_rules.specs.Contexts as typing_view
@@ -27,5 +27,6 @@ env_of p = record {
   locals = map type_of p.locals;
 }
 
-abbrev pub Agrees : Place → Type 0
-Agrees p = typing_view.context_of (env_of p) ≡ checker.context_of p.context
+pub record Agrees (p : Place) : Type 0 where
+  pub known : typing_view.context_of (env_of p) ≡ checker.context_of p.context
+  pub numbered : length p.numbers ≡ length p.context.scope

@@ -24,7 +24,7 @@ use rule_checker::{TypeRef, is_settled};
 use std::alloc::Global;
 
 /// The first token of a form, of so many bytes.
-pub(crate) fn first_token(span: Span, bytes: u32) -> Span
+pub fn first_token(span: Span, bytes: u32) -> Span
     ensures { result ≡ table.first_token span bytes }
 {
     let wide = span.start as u64 + bytes as u64;

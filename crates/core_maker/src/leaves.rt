@@ -133,7 +133,7 @@ pub(crate) fn beside<'a>(
 
 /// The type of the core of an expression of which this is wanted.
 #[tactic(auto, using(crate::proofs::Wanted::core_typed))]
-pub(crate) fn core_type<'a>(place: &'a Place, want: TypeRef<'a>, e: &Expr) -> TypeRef<'a>
+pub fn core_type<'a>(place: &'a Place, want: TypeRef<'a>, e: &Expr) -> TypeRef<'a>
     requires { Agrees place.now }
     ensures { type_at result ≡ core_syntax.type_of (cores.core_of (env_of place.now) (type_at want.entry) (text.expr_of e.now)) }
 {

@@ -2,7 +2,9 @@
 #![tactic(auto)]
 
 mod before;
+mod calls;
 mod expressions;
+mod inits;
 mod joining;
 mod kinds;
 mod leaves;
@@ -12,5 +14,11 @@ mod place;
 mod sites;
 mod types;
 
+pub use calls::call;
 pub use expressions::expression;
-pub use place::Place;
+pub use inits::init;
+pub use kinds::first_token;
+pub use leaves::core_type;
+pub use place::{Place, own};
+pub use sites::check;
+pub use types::{number, owned, stored_type};

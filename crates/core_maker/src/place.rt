@@ -23,7 +23,7 @@ pub struct Place {
 }
 
 /// The type that the expression has by its form.
-pub(crate) fn own<'a>(place: &'a Place, e: &Expr) -> TypeRef<'a>
+pub fn own<'a>(place: &'a Place, e: &Expr) -> TypeRef<'a>
     requires { Agrees place.now }
     ensures { type_at result ≡ cores.own (env_of place.now) (text.expr_of e.now) }
 {

@@ -8,7 +8,7 @@ use iv_words::{Memory, Seq, Span};
 use std::alloc::Global;
 
 /// A check with the next number.
-pub(crate) fn check(kind: SiteKind, at: Span, next: &mut u32) -> Result<Check, Memory>
+pub fn check(kind: SiteKind, at: Span, next: &mut u32) -> Result<Check, Memory>
     ensures check { IfOk result (λ c. c ≡ record { site = next.old; kind = kind; span = at }) }
     ensures after { OnOk result (next.new ≡ next.old + 1) }
 {

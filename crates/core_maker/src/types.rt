@@ -34,7 +34,7 @@ fn reference(constant: bool, region: Region, area: Area) -> ValueType
 }
 
 /// The type as a value of its own.
-pub(crate) fn owned(alloc: Global, t: TypeRef) -> Result<ValueType, Memory>
+pub fn owned(alloc: Global, t: TypeRef) -> Result<ValueType, Memory>
     ensures { IfOk result (λ v. seen.type_of v ≡ type_at t.entry) }
 {
     match t {
@@ -50,7 +50,7 @@ pub(crate) fn owned(alloc: Global, t: TypeRef) -> Result<ValueType, Memory>
 }
 
 /// A number that is kept in 32 bits; where it has more, that is want of memory too.
-pub(crate) fn number(at: Option<usize>) -> Result<u32, Memory>
+pub fn number(at: Option<usize>) -> Result<u32, Memory>
     ensures { IfOk result (λ n. n ≡ cores.number_or at) }
 {
     match at {
@@ -100,7 +100,7 @@ pub(crate) fn word_type<'a>(items: &'a Items, t: TypeRef<'a>) -> TypeRef<'a>
 }
 
 /// What is stored behind a reference.
-pub(crate) fn stored_type<'a>(t: TypeRef<'a>) -> TypeRef<'a>
+pub fn stored_type<'a>(t: TypeRef<'a>) -> TypeRef<'a>
     ensures { type_at result ≡ cores.type_or (parts.stored_type (type_at t.entry)) }
 {
     match t {

@@ -91,7 +91,7 @@ fn result_for(
 }
 
 /// The type of a call, where it has one.
-pub(crate) fn call_type(
+pub fn call_type(
     alloc: Global,
     context: &Context,
     call: &CallText,

@@ -11,4 +11,5 @@ mod scope;
 
 pub use areas::{area_fault, area_within_type_fault, held_rule, words_of};
 pub use blocks::block_fault;
+pub use call_types::call_type;
 pub use scope::{add_local, leave, reference_to};

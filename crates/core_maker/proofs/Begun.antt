@@ -16,7 +16,7 @@ use Rattle.core_tree.specs.Syntax.{ExprCore}
 use Rattle.typing_rules.specs.Environments.{Env, area_number}
 use Rattle.source_types.specs.Settled.{settled}
 use Rattle.typing_rules.specs.ExpressionCores.{number_or, own, local_number, name_core, core_of}
-use Rattle.core_maker.specs.Numbered.{expr_from, expr_after}
+use Rattle.check_numbers.specs.Numbered.{expr_from, expr_after}
 use Rattle.core_maker.specs.Opened.{Form, alone, closed, based, opened, kept, first_of}
 use Rattle.core_maker.specs.Chains.{has_links, first_want, with_links, after_links, chain_first, chain_number, chain_form, chain_after}
 use Rattle.core_maker.specs.Postfixes.{has_steps, after_steps, form_by, postfix_base, postfix_form, postfix_after}

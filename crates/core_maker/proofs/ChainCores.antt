@@ -19,7 +19,7 @@ use Rattle.typing_rules.specs.Sites.{unchecked}
 use Rattle.typing_rules.specs.Wholes.{level, is_chain_prefix, part}
 use Rattle.core_tree.specs.Operators.{result_type}
 use Rattle.typing_rules.specs.ExpressionCores.{type_or, own, operand, core_of}
-use Rattle.core_maker.specs.Numbered.{label_from, label_after, expr_from, expr_after}
+use Rattle.check_numbers.specs.Numbered.{label_from, label_after, expr_from, expr_after}
 use Rattle.core_maker.specs.Opened.{Form, AfterLink, AfterStep, closed, joined, alone, opened, kept, first_of}
 use Rattle.core_maker.specs.Chains.{link_settled, link_own, want_of, link_label, with_link, after_link, with_links, after_links, first_want, chain_form, chain_after}
 use Rattle.core_maker.proofs.Parts.{part_from, whole_after}

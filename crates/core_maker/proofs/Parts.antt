@@ -5,7 +5,7 @@ use Rattle.core_tree.specs.Syntax as core
 use Rattle.core_tree.specs.Syntax.{ExprCore, type_of}
 use Rattle.typing_rules.specs.Sites.{unchecked}
 use Rattle.typing_rules.specs.Wholes.{part}
-use Rattle.core_maker.specs.Numbered.{expr_from, expr_after}
+use Rattle.check_numbers.specs.Numbered.{expr_from, expr_after}
 
 pub type_from : (n : ℕ) (c : ExprCore) → type_of (expr_from n c) ≡ type_of c
 type_from n (core.Number l value) = refl

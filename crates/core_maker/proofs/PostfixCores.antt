@@ -16,7 +16,7 @@ use Rattle.typing_rules.specs.Contexts.{context_of}
 use Rattle.typing_rules.specs.Sites.{unchecked}
 use Rattle.typing_rules.specs.Wholes.{is_postfix_prefix, part}
 use Rattle.typing_rules.specs.ExpressionCores.{type_or, number_or, number_in, own, core_of}
-use Rattle.core_maker.specs.Numbered.{expr_from, expr_after}
+use Rattle.check_numbers.specs.Numbered.{expr_from, expr_after}
 use Rattle.ivory_tree.specs.Places.{expr_span}
 use Rattle.ivory_tree.specs.declared.BinOp.{BinOp}
 use Rattle.core_maker.specs.Opened.{Form, AfterLink, AfterStep, closed, based, alone, opened, kept, first_of}

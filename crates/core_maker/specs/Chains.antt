@@ -13,7 +13,7 @@ use Rattle.typing_rules.specs.Environments.{Env}
 use Rattle.core_tree.specs.Operators.{operator_sites}
 use Rattle.core_tree.specs.Operators.{result_type}
 use Rattle.typing_rules.specs.ExpressionCores.{bare, own, core_of}
-use Rattle.core_maker.specs.Numbered.{label_from, label_after, expr_from, expr_after}
+use Rattle.check_numbers.specs.Numbered.{label_from, label_after, expr_from, expr_after}
 use Rattle.core_maker.specs.Opened.{Form, AfterLink, joined, first_of}
 
 -- ---- what is known before a link

@@ -1,9 +1,7 @@
 pub mod Nodes
 pub mod Places
-pub mod Numbered
 pub mod Opened
 pub mod Chains
 pub mod Postfixes
 pub mod Forms
-pub mod NumberedParts
 pub mod Initializers

@@ -14,7 +14,7 @@ use Rattle.typing_rules.specs.Environments.{Env}
 use Rattle.core_tree.specs.Operators.{prefix_sites}
 use Rattle.typing_rules.specs.Sites.{unchecked, first_token}
 use Rattle.typing_rules.specs.ExpressionCores.{type_or, number_or, number_in, bare, bits_number, new_field, new_type, new_sites, own, core_of}
-use Rattle.core_maker.specs.Numbered.{expr_from, expr_after, kinds_after}
+use Rattle.check_numbers.specs.Numbered.{expr_from, expr_after, kinds_after}
 use Rattle.core_maker.specs.Opened.{Form, AfterStep, based, first_of}
 
 -- the type of a part of what has that type

@@ -4,7 +4,7 @@ ghost use Rattle.std.specs.Prelude.{◌≡◌, IfOk, OnOk};
 ghost use Rattle.core_tree.specs.View as tree;
 ghost use Rattle.ivory_tree.specs.View.{call_of};
 ghost use Rattle.typing_rules.specs.StatementCores.{call_core};
-ghost use Rattle.core_maker.specs.NumberedParts.{call_from, call_after};
+ghost use Rattle.check_numbers.specs.NumberedParts.{call_from, call_after};
 ghost use Rattle.core_maker.specs.Places.{env_of, Agrees};
 
 use crate::place::Place;

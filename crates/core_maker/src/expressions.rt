@@ -13,7 +13,7 @@ ghost use Rattle.typing_rules.specs.Sites as sites;
 ghost use Rattle.typing_rules.specs.Sites.{unchecked};
 ghost use Rattle.core_maker.specs.Chains as along;
 ghost use Rattle.core_maker.specs.Forms.{form_of};
-ghost use Rattle.core_maker.specs.Numbered.{expr_from, expr_after, kinds_from};
+ghost use Rattle.check_numbers.specs.Numbered.{expr_from, expr_after, kinds_from};
 ghost use Rattle.core_maker.specs.Opened.{alone, based, first_of, opened};
 ghost use Rattle.core_maker.specs.Places.{env_of, Agrees};
 ghost use Rattle.core_maker.specs.Postfixes as parts;

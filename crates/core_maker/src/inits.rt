@@ -5,7 +5,7 @@ ghost use Rattle.area_types.specs.View.{area_of};
 ghost use Rattle.core_tree.specs.View as tree;
 ghost use Rattle.ivory_tree.specs.View.{init_of};
 ghost use Rattle.typing_rules.specs.StatementCores.{init_core};
-ghost use Rattle.core_maker.specs.NumberedParts.{init_from, init_after};
+ghost use Rattle.check_numbers.specs.NumberedParts.{init_from, init_after};
 ghost use Rattle.core_maker.specs.Places.{env_of, Agrees};
 
 use crate::place::Place;

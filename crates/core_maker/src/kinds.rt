@@ -11,7 +11,7 @@ ghost use Rattle.index_types.specs.Indices.{is_index};
 ghost use Rattle.core_tree.specs.Operators as operators;
 ghost use Rattle.core_tree.specs.Types as types;
 ghost use Rattle.typing_rules.specs.Sites as table;
-ghost use Rattle.core_maker.specs.Numbered.{kinds_from, kinds_after};
+ghost use Rattle.check_numbers.specs.Numbered.{kinds_from, kinds_after};
 ghost use Rattle.core_maker.specs.Places.{env_of, Agrees};
 
 use crate::place::{Place, own};

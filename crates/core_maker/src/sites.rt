@@ -1,7 +1,7 @@
 //! New checks: each takes the next number. Where there is no number for it, that is want of memory too.
 
 ghost use Rattle.std.specs.Prelude.{◌≡◌, ◌+◌, [], ◌∷◌, IfOk, OnOk};
-ghost use Rattle.core_maker.specs.Numbered.{kinds_from, kinds_after};
+ghost use Rattle.check_numbers.specs.Numbered.{kinds_from, kinds_after};
 
 use core_tree::{Check, SiteKind};
 use iv_words::{Memory, Seq, Span};

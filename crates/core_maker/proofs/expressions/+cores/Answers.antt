@@ -7,7 +7,7 @@ use Rattle.typing_rules.specs.Environments.{area_number}
 use Rattle.core_maker.specs.Chains.{with_links}
 use Rattle.core_maker.specs.Postfixes.{form_by}
 use Rattle.core_maker.specs.Forms.{form_of}
-use Rattle.core_maker.specs.Numbered.{expr_from}
+use Rattle.check_numbers.specs.Numbered.{expr_from}
 use Rattle.core_maker.specs.Opened.{alone, based, closed, kept, first_of, opened}
 use Rattle.core_maker.specs.Places.{env_of}
 use Rattle.core_maker.proofs.Begun.{kept_first, chain_given, postfix_given, variable_given}

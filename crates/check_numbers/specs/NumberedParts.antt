@@ -3,7 +3,7 @@ use Rattle.std.specs.Prelude.{ℕ, ◌+◌, List, [], ◌∷◌, Option, Some, N
 use Rattle.core_tree.specs.Syntax as core
 use Rattle.core_tree.specs.Syntax.{ExprCore, InitCore, InitsCore, CallCore, StmtCore, StmtsCore, ContractCore, ProcCore}
 use Rattle.core_tree.specs.declared.Check.{Check}
-use Rattle.core_maker.specs.Numbered.{expr_from, expr_after}
+use Rattle.check_numbers.specs.Numbered.{expr_from, expr_after}
 
 -- ---- initializers
 

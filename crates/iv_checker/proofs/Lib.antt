@@ -1,0 +1,4 @@
+pub mod InARow
+pub mod Collected
+pub mod Standing
+pub mod Answered

@@ -3,6 +3,7 @@
 
 mod answer;
 mod checker;
+mod table;
 
 pub use answer::CheckError;
 pub use checker::check;

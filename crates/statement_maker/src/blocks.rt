@@ -5,7 +5,7 @@ ghost use Rattle.core_tree.specs.View as tree;
 ghost use Rattle.ivory_tree.specs.View.{block_of};
 ghost use Rattle.typing_rules.specs.Environments as typing;
 ghost use Rattle.typing_rules.specs.StatementCores as cores;
-ghost use Rattle.core_maker.specs.NumberedParts as numbers;
+ghost use Rattle.check_numbers.specs.NumberedParts as numbers;
 ghost use Rattle.core_maker.specs.Places.{env_of, Agrees};
 
 use core_maker::Place;

@@ -1,0 +1,65 @@
+-- What is made of a module without a fault is a core that it stands for.
+use Rattle.std.proofs.Common.{◌≡◌, ℕ, ◌≤◌, List, map, None, IsTrue, sym, ◌∙◌, ap, ap₂, subst}
+use Rattle.iv_words.specs.declared.IntKind.{IntKind}
+use Rattle.ivory_tree.specs.Syntax.{ModuleSyntax}
+use Rattle.ivory_tree.specs.Formed.{Formed}
+use Rattle.ivory_tree.specs.Nodes.{module_nodes, nodes_count}
+use Rattle.area_types.specs.Syntax.{StructType}
+use Rattle.area_types.specs.Tables.{Table, structs_of, is_table}
+use Rattle.bit_data.specs.declared.BitLayout.{BitLayout}
+use Rattle.core_tree.specs.Syntax.{AreaCore, ImportCore, ProcCore, ModuleCore}
+use Rattle.core_tree.specs.Valid.{ValidCore}
+use Rattle.source_types.specs.Environments.{nothing_earlier, words}
+use Rattle.source_types.specs.Items.{item_names}
+use Rattle.rule_faults.specs.FirstFault.{first_fault}
+use Rattle.rule_faults.specs.ItemRows.{module_row}
+use Rattle.rule_faults.proofs.Found.{none_is_faultless}
+use Rattle.typing_rules.specs.Made.{end_of, layouts_of, areas_of, imports_of, procs_of, made}
+use Rattle.typing_rules.specs.WellTyped.{Stands}
+use Rattle.typing_laws.proofs.ExactlyOne.{faultless_is_made}
+use Rattle.typing_laws.proofs.TablesSay.{structs_say}
+use Rattle.check_numbers.specs.NumberedParts.{procs_from}
+use Rattle.item_maker.specs.Making.{SoFar, nothing_made, with_items}
+use Rattle.iv_checker.proofs.InARow.{made_in_a_row}
+use Rattle.iv_checker.proofs.Collected.{end_is, layouts_are, areas_are, imports_are, procs_are}
+
+-- all that is made of the items of a module
+abbrev pub all_made : ModuleSyntax → SoFar
+all_made m = with_items (nothing_made (item_names m.items)) m.items
+
+-- the core of what is made, with a table of structs
+abbrev pub core_with : Table → SoFar → ModuleCore
+core_with table x = record { structs = table; layouts = x.layouts; areas = x.areas; imports = x.imports; procs = x.procs }
+
+pub made_stands : (m : ModuleSyntax) → Formed m → first_fault m ≡ None → Stands m (made m)
+made_stands m f h = faultless_is_made m f (none_is_faultless m h)
+
+-- the same with another table that says the same structs and words
+with_table : (m : ModuleSyntax) (table : Table) → Stands m (made m) → structs_of table ≡ (end_of nothing_earlier m.items).structs → table.words ≡ words (end_of nothing_earlier m.items)
+    → Stands m (record (made m) { structs = table })
+with_table m table s hs hw = record {
+  end = s.end;
+  items = s.items;
+  structs = hs ∙ sym (structs_say (end_of nothing_earlier m.items).structs) ∙ s.structs;
+  words = hw ∙ s.words;
+  sites = s.sites;
+  numbered = s.numbered;
+}
+
+abbrev of_parts : Table → List BitLayout → List AreaCore → List ImportCore → List ProcCore → ModuleCore
+of_parts t bs as' is ps = record { structs = t; layouts = bs; areas = as'; imports = is; procs = ps }
+
+parts_same : (t : Table) {bs cs : List BitLayout} {as' xs : List AreaCore} {is js : List ImportCore} {ps qs : List ProcCore} → bs ≡ cs → as' ≡ xs → is ≡ js → ps ≡ qs
+    → of_parts t bs as' is ps ≡ of_parts t cs xs js qs
+parts_same t {bs} {cs} {as'} {xs} {is} {js} {ps} {qs} b a i p =
+    ap₂ (λ (x : List BitLayout) (y : List AreaCore). of_parts t x y is ps) b a ∙ ap₂ (λ (x : List ImportCore) (y : List ProcCore). of_parts t cs xs x y) i p
+
+pub stands_for_made : (m : ModuleSyntax) (table : Table) → Formed m → first_fault m ≡ None → structs_of table ≡ (all_made m).earlier.structs → table.words ≡ words (all_made m).earlier
+    → Stands m (core_with table (all_made m))
+stands_for_made m table f h hs hw =
+    let x : SoFar = nothing_made (item_names m.items) in
+    let s : Stands m (made m) = made_stands m f h in
+    let ends = end_is x m.items in
+    subst (Stands m)
+    (sym (parts_same table (layouts_are x m.items) (areas_are x m.items) (imports_are x m.items) (procs_are x m.items ∙ sym (made_in_a_row m f s))))
+    (with_table m table s (hs ∙ ap (λ e. e.structs) ends) (hw ∙ ap words ends))

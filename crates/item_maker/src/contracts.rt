@@ -22,7 +22,11 @@ use std::alloc::Global;
 fn kind_of(before: bool) -> SiteKind
     ensures { result ≡ items.contract_site before }
 {
-    if before { SiteKind::Pre } else { SiteKind::Post }
+    if before {
+        SiteKind::Pre
+    } else {
+        SiteKind::Post
+    }
 }
 
 /// The bytes of `requires` and of `ensures`.
@@ -32,12 +36,7 @@ fn keyword_bytes(before: bool) -> u32
     if before { 8 } else { 7 }
 }
 
-fn condition(
-    alloc: Global,
-    place: &Place,
-    e: &Expr,
-    next: &mut u32,
-) -> Result<CoreExpr, Memory>
+fn condition(alloc: Global, place: &Place, e: &Expr, next: &mut u32) -> Result<CoreExpr, Memory>
     requires { Agrees place.now }
     ensures core { IfOk result (λ c. tree.expr_of c ≡ expr_from next.old (core_of (env_of place.now) Truth (text.expr_of e.now))) }
     ensures after { OnOk result (next.new ≡ expr_after next.old (core_of (env_of place.now) Truth (text.expr_of e.now))) }

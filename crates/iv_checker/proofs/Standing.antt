@@ -1,6 +1,5 @@
 -- What is made of a module without a fault is a core that it stands for.
 use Rattle.std.proofs.Common.{◌≡◌, ℕ, ◌≤◌, List, map, None, IsTrue, sym, ◌∙◌, ap, ap₂, subst}
-use Rattle.iv_words.specs.declared.IntKind.{IntKind}
 use Rattle.ivory_tree.specs.Syntax.{ModuleSyntax}
 use Rattle.ivory_tree.specs.Formed.{Formed}
 use Rattle.ivory_tree.specs.Nodes.{module_nodes, nodes_count}
@@ -9,16 +8,15 @@ use Rattle.area_types.specs.Tables.{Table, structs_of, is_table}
 use Rattle.bit_data.specs.declared.BitLayout.{BitLayout}
 use Rattle.core_tree.specs.Syntax.{AreaCore, ImportCore, ProcCore, ModuleCore}
 use Rattle.core_tree.specs.Valid.{ValidCore}
-use Rattle.source_types.specs.Environments.{nothing_earlier, words}
+use Rattle.source_types.specs.Environments.{Earlier, nothing_earlier, words}
 use Rattle.source_types.specs.Items.{item_names}
 use Rattle.rule_faults.specs.FirstFault.{first_fault}
-use Rattle.rule_faults.specs.ItemRows.{module_row}
 use Rattle.rule_faults.proofs.Found.{none_is_faultless}
-use Rattle.typing_rules.specs.Made.{end_of, layouts_of, areas_of, imports_of, procs_of, made}
+use Rattle.typing_rules.specs.Made.{end_of, made}
 use Rattle.typing_rules.specs.WellTyped.{Stands}
 use Rattle.typing_laws.proofs.ExactlyOne.{faultless_is_made}
 use Rattle.typing_laws.proofs.TablesSay.{structs_say}
-use Rattle.check_numbers.specs.NumberedParts.{procs_from}
+use Rattle.core_validity.proofs.Valid.{standing_is_valid}
 use Rattle.item_maker.specs.Making.{SoFar, nothing_made, with_items}
 use Rattle.iv_checker.proofs.InARow.{made_in_a_row}
 use Rattle.iv_checker.proofs.Collected.{end_is, layouts_are, areas_are, imports_are, procs_are}
@@ -63,3 +61,16 @@ stands_for_made m table f h hs hw =
     subst (Stands m)
     (sym (parts_same table (layouts_are x m.items) (areas_are x m.items) (imports_are x m.items) (procs_are x m.items ∙ sym (made_in_a_row m f s))))
     (with_table m table s (hs ∙ ap (λ e. e.structs) ends) (hw ∙ ap words ends))
+
+-- its structs are a table
+pub table_fits : (m : ModuleSyntax) → Formed m → nodes_count (module_nodes m) ≤ 2_147_483_648 → first_fault m ≡ None → IsTrue (is_table (all_made m).earlier.structs (words (all_made m).earlier))
+table_fits m f few h =
+    let end : Earlier = end_of nothing_earlier m.items in
+    let table = (standing_is_valid m (made m) f few (made_stands m f h)).table in
+    let here : IsTrue (is_table end.structs (words end)) = subst (λ (ss : List StructType). IsTrue (is_table ss (words end))) (structs_say end.structs) table in
+    subst (λ (e : Earlier). IsTrue (is_table e.structs (words e))) (sym (end_is (nothing_made (item_names m.items)) m.items)) here
+
+-- and it is valid
+pub made_is_valid : (m : ModuleSyntax) (table : Table) → Formed m → nodes_count (module_nodes m) ≤ 2_147_483_648 → first_fault m ≡ None → structs_of table ≡ (all_made m).earlier.structs → table.words ≡ words (all_made m).earlier
+    → ValidCore (core_with table (all_made m))
+made_is_valid m table f few h hs hw = standing_is_valid m (core_with table (all_made m)) f few (stands_for_made m table f h hs hw)

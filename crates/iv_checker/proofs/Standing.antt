@@ -17,17 +17,10 @@ use Rattle.typing_rules.specs.WellTyped.{Stands}
 use Rattle.typing_laws.proofs.ExactlyOne.{faultless_is_made}
 use Rattle.typing_laws.proofs.TablesSay.{structs_say}
 use Rattle.core_validity.proofs.Valid.{standing_is_valid}
-use Rattle.item_maker.specs.Making.{SoFar, nothing_made, with_items}
+use Rattle.item_maker.specs.Making.{SoFar, nothing_made}
+use Rattle.iv_checker.specs.Made.{all_made, core_with}
 use Rattle.iv_checker.proofs.InARow.{made_in_a_row}
 use Rattle.iv_checker.proofs.Collected.{end_is, layouts_are, areas_are, imports_are, procs_are}
-
--- all that is made of the items of a module
-abbrev pub all_made : ModuleSyntax → SoFar
-all_made m = with_items (nothing_made (item_names m.items)) m.items
-
--- the core of what is made, with a table of structs
-abbrev pub core_with : Table → SoFar → ModuleCore
-core_with table x = record { structs = table; layouts = x.layouts; areas = x.areas; imports = x.imports; procs = x.procs }
 
 pub made_stands : (m : ModuleSyntax) → Formed m → first_fault m ≡ None → Stands m (made m)
 made_stands m f h = faultless_is_made m f (none_is_faultless m h)

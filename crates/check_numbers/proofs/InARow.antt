@@ -1,12 +1,12 @@
 -- Checks that are numbered one after another have the numbers that a function of a check gives, where it gives these to all of them in a row.
-use Rattle.std.proofs.Common.{◌≡◌, ℕ, suc, arith, ◌+◌, List, [], ◌∷◌, ◌++◌, map, flat_map, Option, Some, None, refl, sym, ◌∙◌, ap, ap₂, subst}
+use Rattle.std.proofs.Common.{◌≡◌, ℕ, suc, arith, ◌+◌, List, [], ◌∷◌, ◌++◌, map, flat_map, Some, None, refl, sym, ◌∙◌, ap, ap₂, subst}
 use Rattle.core_tree.specs.Syntax as core
 use Rattle.core_tree.specs.Syntax.{Label, ExprCore, InitCore, InitsCore, CallCore, StmtCore, StmtsCore, ContractCore, ProcCore}
 use Rattle.core_tree.specs.Checks.{expr_checks, init_checks, inits_checks, call_checks, stmt_checks, stmts_checks, contract_checks, proc_checks}
 use Rattle.core_tree.specs.declared.Check.{Check}
 use Rattle.core_tree.specs.Sites.{IsNumberedFrom}
 use Rattle.typing_rules.specs.Numbers.{numbered_by}
-use Rattle.typing_rules.specs.OtherChecks.{label_by, expr_by, init_by, inits_by, maybe_init_by, maybe_by, call_by, stmt_by, stmts_by, contract_by, proc_by}
+use Rattle.typing_rules.specs.OtherChecks.{label_by, expr_by, init_by, inits_by, call_by, stmt_by, stmts_by, contract_by, proc_by}
 use Rattle.check_numbers.specs.Numbered.{checks_from, checks_after, label_from, label_after, expr_from, expr_after}
 use Rattle.check_numbers.specs.NumberedParts.{init_from, init_after, inits_from, inits_after, exprs_from, exprs_after, call_from, call_after, stmt_from, stmt_after, stmts_from, stmts_after, contract_from, contract_after, contracts_from, contracts_after, proc_from, proc_after, procs_from, procs_after}
 use Rattle.check_numbers.specs.InARow.{NumberedInARow, AfterAll}

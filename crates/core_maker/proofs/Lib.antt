@@ -6,3 +6,4 @@ pub mod Leads
 pub mod Begun
 pub mod Agreed
 pub mod Wanted
+pub mod Listed

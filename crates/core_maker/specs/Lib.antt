@@ -1,4 +1,3 @@
-pub mod Nodes
 pub mod Places
 pub mod Opened
 pub mod Chains

@@ -8,8 +8,8 @@ ghost use Rattle.typing_rules.specs.ExpressionCores as cores;
 ghost use Rattle.core_maker.specs.Chains as along;
 ghost use Rattle.core_maker.specs.Places.{env_of, Agrees};
 
-use crate::operators::{gives_truth, is_logic};
 use crate::place::{Place, own};
+use core_parts::{gives_truth, is_logic};
 use iv_words::Seq;
 use ivory_tree::{Expr, Link};
 use rule_checker::{TypeRef, is_settled};

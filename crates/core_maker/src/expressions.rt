@@ -20,21 +20,17 @@ ghost use Rattle.core_maker.specs.Postfixes as parts;
 
 use crate::before::{Before, after_link, before_links};
 use crate::joining::{Opened, PostfixParts, base, close, keep, push_link, push_step};
-use crate::kinds::{
-    cast_checks, first_token, index_checks, name_bytes, operator_checks, prefix_checks, set_checks,
-};
 use crate::leaves::{
-    Arm, OldBits, beside, cond_node, core_type, has_links, has_steps, literal, outcome, set_node,
-    step_type, truth, variable,
+    Arm, OldBits, beside, cast_checks, cond_node, core_type, has_links, has_steps, literal,
+    outcome, set_node, step_type, truth, variable,
 };
-use crate::nodes;
-use crate::operators::result_type;
-use crate::place::{Place, own};
-use crate::types::{
-    bit_field_named, bit_field_number, bits_number, length_behind, new_type, number, number_in,
-    owned, word_type,
-};
+use crate::place::{Place, number_in, own};
 use area_types::ValueType;
+use core_parts::{
+    bit_field_named, bit_field_number, bits_number, first_token, index_checks, length_behind,
+    name_bytes, new_type, nodes, number, operator_checks, owned, prefix_checks, result_type,
+    set_checks, word_type,
+};
 use core_tree::{CoreExpr, CoreStep};
 use iv_words::{IntKind, Memory, Name, Seq, Span};
 use ivory_tree::{Expr, ExprKind, Link, PrefixOp, Step};

@@ -5,12 +5,12 @@ ghost use Rattle.area_types.specs.View.{type_of};
 ghost use Rattle.core_tree.specs.Syntax as core_syntax;
 ghost use Rattle.core_tree.specs.View as tree;
 ghost use Rattle.core_maker.specs.Forms.{form_of};
-ghost use Rattle.core_maker.specs.Nodes.{labelled};
+ghost use Rattle.core_parts.specs.Nodes.{labelled};
 ghost use Rattle.core_maker.specs.Opened as shape;
 
-use crate::nodes::{chain, link, postfix};
-use crate::operators::level;
 use area_types::ValueType;
+use core_parts::level;
+use core_parts::nodes::{chain, link, postfix};
 use core_tree::{Check, CoreExpr, CoreLink, CoreStep};
 use iv_words::{Memory, Seq};
 use ivory_tree::BinOp;

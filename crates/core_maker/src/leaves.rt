@@ -10,6 +10,7 @@ ghost use Rattle.typing_rules.specs.Environments.{area_number};
 ghost use Rattle.typing_rules.specs.Expressions.{truth_value};
 ghost use Rattle.typing_rules.specs.ExpressionCores as cores;
 ghost use Rattle.typing_rules.specs.Sites.{unchecked};
+ghost use Rattle.check_numbers.specs.Numbered.{kinds_from, kinds_after};
 ghost use Rattle.core_maker.specs.Chains as along;
 ghost use Rattle.core_maker.specs.Forms.{form_of};
 ghost use Rattle.core_maker.specs.Opened.{alone};
@@ -17,12 +18,13 @@ ghost use Rattle.core_maker.specs.Places.{env_of, Agrees};
 ghost use Rattle.core_maker.specs.Postfixes as parts;
 
 use crate::joining::Opened;
-use crate::nodes;
 use crate::place::{Place, local_number, own};
-use crate::types::{area_position, element_type, field_type, number, owned};
 use area_types::ValueType;
-use core_tree::{Check, CoreExpr};
-use iv_words::{Memory, Seq, Word};
+use core_parts::{
+    area_position, check_unless, element_type, field_type, has_values_of, nodes, number, owned,
+};
+use core_tree::{Check, CoreExpr, SiteKind};
+use iv_words::{IntKind, Memory, Seq, Span, Word};
 use ivory_tree::{Expr, Link, Step};
 use rule_checker::{TypeRef, is_settled};
 use std::alloc::Global;
@@ -162,4 +164,24 @@ pub(crate) fn step_type<'a>(place: &'a Place, t: TypeRef<'a>, step: &Step) -> Ty
         Step::Field(name) => field_type(&place.context.items, t, &name.text),
         Step::Index(_, _) => element_type(t),
     }
+}
+
+/// The check of a conversion to the kind.
+pub(crate) fn cast_checks(
+    alloc: Global,
+    place: &Place,
+    kind: IntKind,
+    operand: &Expr,
+    at: Span,
+    next: &mut u32,
+) -> Result<Seq<Check>, Memory>
+    requires { Agrees place.now }
+    ensures checks { IfOk result (λ cs. cs ≡ kinds_from next.old (cores.cast_checks (env_of place.now) kind (text.expr_of operand.now)) at) }
+    ensures after { OnOk result (next.new ≡ kinds_after next.old (cores.cast_checks (env_of place.now) kind (text.expr_of operand.now)) at) }
+{
+    if is_settled(operand) {
+        let needless = has_values_of(kind, own(place, operand));
+        return check_unless(alloc, needless, SiteKind::Cast, at, next);
+    }
+    Ok(Seq::new(alloc))
 }

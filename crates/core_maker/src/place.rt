@@ -9,7 +9,8 @@ ghost use Rattle.rule_checker.specs.declared.Local as checker;
 ghost use Rattle.typing_rules.specs.ExpressionCores as cores;
 ghost use Rattle.core_maker.specs.Places.{env_of, Agrees};
 
-use area_types::ValueType;
+use area_types::{Area, ValueType};
+use core_parts::{bit_field_number, struct_field_number};
 use iv_words::{Seq, Word};
 use ivory_tree::Expr;
 use rule_checker::{Context, TypeRef, own_type};
@@ -63,4 +64,18 @@ pub(crate) fn local_number(place: &Place, name: &Word) -> Option<u32>
     ensures { result ≡ cores.local_number (env_of place.now) name.now }
 {
     number_at(&place.numbers, position_in_scope(place, name))
+}
+
+/// The place of the field among those of bit data, or of the struct behind a reference.
+pub(crate) fn number_in(place: &Place, t: TypeRef, name: &Word) -> Option<usize>
+    ensures { result ≡ cores.number_in (env_of place.now) (type_at t.entry) name.now }
+{
+    match t {
+        TypeRef::Bits(number) => bit_field_number(&place.context.items, number, name),
+        TypeRef::Ref(reference) => match reference.area {
+            Area::Struct(number) => struct_field_number(&place.context.items, *number, name),
+            Area::Stored(_) | Area::Array(_, _) => None,
+        },
+        TypeRef::Bool | TypeRef::Int(_) | TypeRef::Ix(_) => None,
+    }
 }

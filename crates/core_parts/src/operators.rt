@@ -10,7 +10,7 @@ use ivory_tree::BinOp;
 use rule_checker::TypeRef;
 
 /// The operators of one level make one chain.
-pub(crate) fn level(op: BinOp) -> u8
+pub fn level(op: BinOp) -> u8
     ensures { result ≡ wholes.level op }
 {
     match op {
@@ -28,7 +28,7 @@ pub(crate) fn level(op: BinOp) -> u8
 }
 
 /// Whether it is `&&` or `||`.
-pub(crate) fn is_logic(op: BinOp) -> bool
+pub fn is_logic(op: BinOp) -> bool
     ensures { result ≡ table.is_logic op }
 {
     match op {
@@ -52,14 +52,14 @@ fn is_comparison(op: BinOp) -> bool
 }
 
 /// Whether the result is a bool, whatever the operands are.
-pub(crate) fn gives_truth(op: BinOp) -> bool
+pub fn gives_truth(op: BinOp) -> bool
     ensures { result ≡ table.gives_truth op }
 {
     is_logic(op) || is_comparison(op)
 }
 
 /// What an operator gives for operands of the type.
-pub(crate) fn result_type<'a>(op: BinOp, t: TypeRef<'a>) -> TypeRef<'a>
+pub fn result_type<'a>(op: BinOp, t: TypeRef<'a>) -> TypeRef<'a>
     ensures { type_at result ≡ operators.result_type op (type_at t.entry) }
 {
     if is_comparison(op) { TypeRef::Bool } else { t }

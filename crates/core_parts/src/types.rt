@@ -13,9 +13,7 @@ ghost use Rattle.rule_checker.specs.Contexts.{earlier_of};
 ghost use Rattle.rule_checker.specs.View.{type_at};
 ghost use Rattle.typing_rules.specs.Environments as typing;
 ghost use Rattle.typing_rules.specs.ExpressionCores as cores;
-ghost use Rattle.core_maker.specs.Places.{env_of};
 
-use crate::place::Place;
 use area_types::{Area, FieldDef, RefType, Region, ValueType};
 use iv_words::{IntKind, Memory, Seq, Word};
 use ivory_tree::BitField;
@@ -77,7 +75,7 @@ pub(crate) fn is_signed_integer(t: TypeRef) -> bool
 }
 
 /// The number of the bit data.
-pub(crate) fn bits_number(t: TypeRef) -> u32
+pub fn bits_number(t: TypeRef) -> u32
     ensures { result ≡ cores.bits_number (type_at t.entry) }
 {
     match t {
@@ -87,7 +85,7 @@ pub(crate) fn bits_number(t: TypeRef) -> u32
 }
 
 /// The word of bit data.
-pub(crate) fn word_type<'a>(items: &'a Items, t: TypeRef<'a>) -> TypeRef<'a>
+pub fn word_type<'a>(items: &'a Items, t: TypeRef<'a>) -> TypeRef<'a>
     ensures { type_at result ≡ cores.type_or (parts.word_type (earlier_of items.now) (type_at t.entry)) }
 {
     match t {
@@ -113,7 +111,7 @@ pub fn stored_type<'a>(t: TypeRef<'a>) -> TypeRef<'a>
 }
 
 /// The length of the array behind a reference.
-pub(crate) fn length_behind(t: TypeRef) -> u32
+pub fn length_behind(t: TypeRef) -> u32
     ensures { result ≡ cores.number_or (parts.length_behind (type_at t.entry)) }
 {
     match t {
@@ -126,7 +124,7 @@ pub(crate) fn length_behind(t: TypeRef) -> u32
 }
 
 /// A reference to an element of the array behind one.
-pub(crate) fn element_type<'a>(t: TypeRef<'a>) -> TypeRef<'a>
+pub fn element_type<'a>(t: TypeRef<'a>) -> TypeRef<'a>
     ensures { type_at result ≡ cores.type_or (parts.element_type (type_at t.entry)) }
 {
     match t {
@@ -189,11 +187,7 @@ fn field_in<'a>(fields: &'a Seq<FieldDef>, name: &Word) -> Option<&'a FieldDef>
 }
 
 /// The field of the name of bit data.
-pub(crate) fn bit_field_named<'a>(
-    items: &'a Items,
-    number: u32,
-    name: &Word,
-) -> Option<&'a BitField>
+pub fn bit_field_named<'a>(items: &'a Items, number: u32, name: &Word) -> Option<&'a BitField>
     ensures { option_copied result ≡ parts.bit_field_named (earlier_of items.now) number name.now }
 {
     match items.bits.get(number as usize) {
@@ -203,7 +197,7 @@ pub(crate) fn bit_field_named<'a>(
 }
 
 /// Its place among the fields.
-pub(crate) fn bit_field_number(items: &Items, number: u32, name: &Word) -> Option<usize>
+pub fn bit_field_number(items: &Items, number: u32, name: &Word) -> Option<usize>
     ensures { result ≡ parts.bit_field_number (earlier_of items.now) number name.now }
 {
     match items.bits.get(number as usize) {
@@ -212,26 +206,13 @@ pub(crate) fn bit_field_number(items: &Items, number: u32, name: &Word) -> Optio
     }
 }
 
-fn struct_field_number(items: &Items, number: u32, name: &Word) -> Option<usize>
+/// The place of the field among those of the struct.
+pub fn struct_field_number(items: &Items, number: u32, name: &Word) -> Option<usize>
     ensures { result ≡ parts.field_number (earlier_of items.now) number name.now }
 {
     match items.structs.get(number as usize) {
         Some(found) => field_at(&found.fields, name),
         None => None,
-    }
-}
-
-/// The place of the field among those of bit data, or of the struct behind a reference.
-pub(crate) fn number_in(place: &Place, t: TypeRef, name: &Word) -> Option<usize>
-    ensures { result ≡ cores.number_in (env_of place.now) (type_at t.entry) name.now }
-{
-    match t {
-        TypeRef::Bits(number) => bit_field_number(&place.context.items, number, name),
-        TypeRef::Ref(reference) => match reference.area {
-            Area::Struct(number) => struct_field_number(&place.context.items, *number, name),
-            Area::Stored(_) | Area::Array(_, _) => None,
-        },
-        TypeRef::Bool | TypeRef::Int(_) | TypeRef::Ix(_) => None,
     }
 }
 
@@ -251,7 +232,7 @@ pub(crate) fn least_unsigned(bits: u64) -> IntKind
 }
 
 /// The type of the new value of a field of bit data.
-pub(crate) fn new_type<'a>(field: Option<&'a BitField>) -> TypeRef<'a>
+pub fn new_type<'a>(field: Option<&'a BitField>) -> TypeRef<'a>
     ensures { type_at result ≡ cores.new_type (option_copied field.entry) }
 {
     match field {
@@ -282,7 +263,7 @@ fn struct_field_named<'a>(items: &'a Items, number: u32, name: &Word) -> Option<
 }
 
 /// A field of bit data, or a reference to a field of the struct behind one.
-pub(crate) fn field_type<'a>(items: &'a Items, t: TypeRef<'a>, name: &Word) -> TypeRef<'a>
+pub fn field_type<'a>(items: &'a Items, t: TypeRef<'a>, name: &Word) -> TypeRef<'a>
     ensures { type_at result ≡ cores.type_or (parts.field_type (earlier_of items.now) (type_at t.entry) name.now) }
 {
     match t {
@@ -303,7 +284,7 @@ pub(crate) fn field_type<'a>(items: &'a Items, t: TypeRef<'a>, name: &Word) -> T
 }
 
 /// The number of the area of the name.
-pub(crate) fn area_position(items: &Items, name: &Word) -> Option<usize>
+pub fn area_position(items: &Items, name: &Word) -> Option<usize>
     ensures { result ≡ typing.area_number (earlier_of items.now) name.now }
 {
     for (at, entry) in items.areas.iter().enumerate() {

@@ -4,7 +4,7 @@ ghost use Rattle.std.specs.Prelude.{◌≡◌, ◌++◌, [], ◌∷◌, map, IfO
 ghost use Rattle.area_types.specs.View.{type_of};
 ghost use Rattle.core_tree.specs.Syntax as core_syntax;
 ghost use Rattle.core_tree.specs.View as tree;
-ghost use Rattle.core_maker.specs.Nodes.{labelled};
+ghost use Rattle.core_parts.specs.Nodes.{labelled};
 
 use area_types::ValueType;
 use core_tree::{Check, CoreExpr, CoreKind, CoreLink, CoreStep};
@@ -24,35 +24,35 @@ fn plain(alloc: Global, kind: CoreKind, ty: ValueType) -> CoreExpr
 }
 
 #[tactic(auto, using(core_tree::proofs::View::number_is))]
-pub(crate) fn number(alloc: Global, ty: ValueType, value: i128) -> CoreExpr
+pub fn number(alloc: Global, ty: ValueType, value: i128) -> CoreExpr
     ensures { tree.expr_of result ≡ core_syntax.Number (labelled ty []) value }
 {
     plain(alloc, CoreKind::Number(value), ty)
 }
 
 #[tactic(auto, using(core_tree::proofs::View::outcome_is))]
-pub(crate) fn outcome(alloc: Global, ty: ValueType) -> CoreExpr
+pub fn outcome(alloc: Global, ty: ValueType) -> CoreExpr
     ensures { tree.expr_of result ≡ core_syntax.Outcome (labelled ty []) }
 {
     plain(alloc, CoreKind::Outcome, ty)
 }
 
 #[tactic(auto, using(core_tree::proofs::View::local_is))]
-pub(crate) fn local(alloc: Global, ty: ValueType, number: u32) -> CoreExpr
+pub fn local(alloc: Global, ty: ValueType, number: u32) -> CoreExpr
     ensures { tree.expr_of result ≡ core_syntax.Local (labelled ty []) number }
 {
     plain(alloc, CoreKind::Local(number), ty)
 }
 
 #[tactic(auto, using(core_tree::proofs::View::area_name_is))]
-pub(crate) fn area_name(alloc: Global, ty: ValueType, number: u32) -> CoreExpr
+pub fn area_name(alloc: Global, ty: ValueType, number: u32) -> CoreExpr
     ensures { tree.expr_of result ≡ core_syntax.AreaName (labelled ty []) number }
 {
     plain(alloc, CoreKind::AreaName(number), ty)
 }
 
 #[tactic(auto, using(core_tree::proofs::View::cast_is))]
-pub(crate) fn cast(
+pub fn cast(
     alloc: Global,
     ty: ValueType,
     checks: Seq<Check>,
@@ -65,7 +65,7 @@ pub(crate) fn cast(
 }
 
 #[tactic(auto, using(core_tree::proofs::View::to_index_is))]
-pub(crate) fn to_index(
+pub fn to_index(
     alloc: Global,
     ty: ValueType,
     checks: Seq<Check>,
@@ -78,11 +78,7 @@ pub(crate) fn to_index(
 }
 
 #[tactic(auto, using(core_tree::proofs::View::wrap_index_is))]
-pub(crate) fn wrap_index(
-    alloc: Global,
-    ty: ValueType,
-    operand: CoreExpr,
-) -> Result<CoreExpr, Memory>
+pub fn wrap_index(alloc: Global, ty: ValueType, operand: CoreExpr) -> Result<CoreExpr, Memory>
     ensures { IfOk result (λ c. tree.expr_of c ≡ core_syntax.WrapIndex (labelled ty []) (tree.expr_of operand)) }
 {
     let kind = CoreKind::WrapIx(Box::new(alloc, operand)?);
@@ -90,7 +86,7 @@ pub(crate) fn wrap_index(
 }
 
 #[tactic(auto, using(core_tree::proofs::View::make_bits_is))]
-pub(crate) fn make_bits(alloc: Global, ty: ValueType, word: CoreExpr) -> Result<CoreExpr, Memory>
+pub fn make_bits(alloc: Global, ty: ValueType, word: CoreExpr) -> Result<CoreExpr, Memory>
     ensures { IfOk result (λ c. tree.expr_of c ≡ core_syntax.MakeBits (labelled ty []) (tree.expr_of word)) }
 {
     let kind = CoreKind::MakeBits(Box::new(alloc, word)?);
@@ -98,7 +94,7 @@ pub(crate) fn make_bits(alloc: Global, ty: ValueType, word: CoreExpr) -> Result<
 }
 
 #[tactic(auto, using(core_tree::proofs::View::raw_is))]
-pub(crate) fn raw(alloc: Global, ty: ValueType, bits: CoreExpr) -> Result<CoreExpr, Memory>
+pub fn raw(alloc: Global, ty: ValueType, bits: CoreExpr) -> Result<CoreExpr, Memory>
     ensures { IfOk result (λ c. tree.expr_of c ≡ core_syntax.Raw (labelled ty []) (tree.expr_of bits)) }
 {
     let kind = CoreKind::Raw(Box::new(alloc, bits)?);
@@ -106,7 +102,7 @@ pub(crate) fn raw(alloc: Global, ty: ValueType, bits: CoreExpr) -> Result<CoreEx
 }
 
 #[tactic(auto, using(core_tree::proofs::View::set_field_is))]
-pub(crate) fn set_field(
+pub fn set_field(
     alloc: Global,
     ty: ValueType,
     checks: Seq<Check>,
@@ -122,7 +118,7 @@ pub(crate) fn set_field(
 }
 
 #[tactic(auto, using(core_tree::proofs::View::prefix_is))]
-pub(crate) fn prefix(
+pub fn prefix(
     alloc: Global,
     ty: ValueType,
     checks: Seq<Check>,
@@ -136,7 +132,7 @@ pub(crate) fn prefix(
 }
 
 #[tactic(auto, using(core_tree::proofs::View::cond_is))]
-pub(crate) fn cond(
+pub fn cond(
     alloc: Global,
     ty: ValueType,
     test: CoreExpr,
@@ -153,7 +149,7 @@ pub(crate) fn cond(
 
 /// An operand with the links after it.
 #[tactic(auto, using(core_tree::proofs::View::chain_is))]
-pub(crate) fn chain(
+pub fn chain(
     alloc: Global,
     ty: ValueType,
     first: CoreExpr,
@@ -167,7 +163,7 @@ pub(crate) fn chain(
 
 /// An operand with the steps after it.
 #[tactic(auto, using(core_tree::proofs::View::postfix_is))]
-pub(crate) fn postfix(
+pub fn postfix(
     alloc: Global,
     ty: ValueType,
     base: CoreExpr,
@@ -180,7 +176,7 @@ pub(crate) fn postfix(
 }
 
 #[tactic(auto, using(core_tree::proofs::View::link_is))]
-pub(crate) fn link(ty: ValueType, checks: Seq<Check>, op: BinOp, right: CoreExpr) -> CoreLink
+pub fn link(ty: ValueType, checks: Seq<Check>, op: BinOp, right: CoreExpr) -> CoreLink
     ensures { tree.link_of result ≡ record { label = labelled ty checks; op = op; right = tree.expr_of right } }
 {
     CoreLink {
@@ -192,14 +188,14 @@ pub(crate) fn link(ty: ValueType, checks: Seq<Check>, op: BinOp, right: CoreExpr
 }
 
 #[tactic(auto, using(core_tree::proofs::View::field_step_is))]
-pub(crate) fn field_step(ty: ValueType, number: u32) -> CoreStep
+pub fn field_step(ty: ValueType, number: u32) -> CoreStep
     ensures { tree.step_of result ≡ tree.FieldStep (type_of ty) number }
 {
     CoreStep::Field(number, ty)
 }
 
 #[tactic(auto, using(core_tree::proofs::View::index_step_is))]
-pub(crate) fn index_step(ty: ValueType, index: CoreExpr) -> CoreStep
+pub fn index_step(ty: ValueType, index: CoreExpr) -> CoreStep
     ensures { tree.step_of result ≡ tree.IndexStep (type_of ty) (tree.expr_of index) }
 {
     CoreStep::Index(index, ty)

@@ -3,8 +3,6 @@
 ghost use Rattle.std.specs.Prelude.{◌≡◌, [], IfOk, OnOk};
 ghost use Rattle.std.specs.Option.{option_copied};
 ghost use Rattle.iv_words.specs.Kinds as range;
-ghost use Rattle.ivory_tree.specs.View as text;
-ghost use Rattle.source_types.specs.Settled.{settled};
 ghost use Rattle.rule_checker.specs.View.{type_at};
 ghost use Rattle.typing_rules.specs.ExpressionCores as cores;
 ghost use Rattle.index_types.specs.Indices.{is_index};
@@ -12,15 +10,13 @@ ghost use Rattle.core_tree.specs.Operators as operators;
 ghost use Rattle.core_tree.specs.Types as types;
 ghost use Rattle.typing_rules.specs.Sites as table;
 ghost use Rattle.check_numbers.specs.Numbered.{kinds_from, kinds_after};
-ghost use Rattle.core_maker.specs.Places.{env_of, Agrees};
 
-use crate::place::{Place, own};
 use crate::sites::{one_check, two_checks};
 use crate::types::{is_signed_integer, least_unsigned};
 use core_tree::{Check, SiteKind};
 use iv_words::{IntKind, Memory, Seq, Span};
-use ivory_tree::{BinOp, BitField, Expr, PrefixOp};
-use rule_checker::{TypeRef, is_settled};
+use ivory_tree::{BinOp, BitField, PrefixOp};
+use rule_checker::TypeRef;
 use std::alloc::Global;
 
 /// The first token of a form, of so many bytes.
@@ -40,7 +36,7 @@ pub fn first_token(span: Span, bytes: u32) -> Span
 }
 
 /// The bytes of the name of a kind.
-pub(crate) fn name_bytes(kind: IntKind) -> u32
+pub fn name_bytes(kind: IntKind) -> u32
     ensures { result ≡ table.name_bytes kind }
 {
     match kind {
@@ -89,7 +85,7 @@ fn width(kind: IntKind) -> u64
 }
 
 /// Whether each value of the type is one of the kind.
-fn has_values_of(kind: IntKind, t: TypeRef) -> bool
+pub fn has_values_of(kind: IntKind, t: TypeRef) -> bool
     ensures { result ≡ types.has_values_of kind (type_at t.entry) }
 {
     match t {
@@ -113,7 +109,7 @@ fn has_indices_of(length: u64, kind: IntKind) -> bool
 }
 
 /// One check, unless it is needless.
-fn check_unless(
+pub fn check_unless(
     alloc: Global,
     needless: bool,
     kind: SiteKind,
@@ -130,7 +126,7 @@ fn check_unless(
 }
 
 /// The checks of an operator for operands of the type.
-pub(crate) fn operator_checks(
+pub fn operator_checks(
     alloc: Global,
     op: BinOp,
     t: TypeRef,
@@ -158,7 +154,7 @@ pub(crate) fn operator_checks(
 }
 
 /// The checks of a prefix.
-pub(crate) fn prefix_checks(
+pub fn prefix_checks(
     alloc: Global,
     op: PrefixOp,
     at: Span,
@@ -173,28 +169,8 @@ pub(crate) fn prefix_checks(
     }
 }
 
-/// The check of a conversion to the kind.
-pub(crate) fn cast_checks(
-    alloc: Global,
-    place: &Place,
-    kind: IntKind,
-    operand: &Expr,
-    at: Span,
-    next: &mut u32,
-) -> Result<Seq<Check>, Memory>
-    requires { Agrees place.now }
-    ensures checks { IfOk result (λ cs. cs ≡ kinds_from next.old (cores.cast_checks (env_of place.now) kind (text.expr_of operand.now)) at) }
-    ensures after { OnOk result (next.new ≡ kinds_after next.old (cores.cast_checks (env_of place.now) kind (text.expr_of operand.now)) at) }
-{
-    if is_settled(operand) {
-        let needless = has_values_of(kind, own(place, operand));
-        return check_unless(alloc, needless, SiteKind::Cast, at, next);
-    }
-    Ok(Seq::new(alloc))
-}
-
 /// The check of a conversion to an index.
-pub(crate) fn index_checks(
+pub fn index_checks(
     alloc: Global,
     length: u64,
     t: TypeRef,
@@ -223,7 +199,7 @@ fn fills_its_type(field: &BitField) -> bool
 }
 
 /// The check of a new value of a field of bit data.
-pub(crate) fn set_checks(
+pub fn set_checks(
     alloc: Global,
     field: Option<&BitField>,
     at: Span,

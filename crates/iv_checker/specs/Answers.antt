@@ -5,7 +5,7 @@ use Rattle.ivory_lexer.specs.Tokens.{IsName}
 use Rattle.ivory_tree.specs.Syntax.{ModuleSyntax}
 use Rattle.ivory_tree.specs.TextLike as text
 use Rattle.core_tree.specs.Syntax.{ModuleCore}
-use Rattle.core_tree.specs.TextLike as core
+use Rattle.core_tree.specs.TextLike as cores
 use Rattle.rule_checker.specs.declared.RuleFault.{RuleFault}
 use Rattle.rule_faults.specs.FirstFault.{FirstFault}
 use Rattle.typing_rules.specs.WellTyped.{Stands, WellTyped}
@@ -19,7 +19,7 @@ pub record IsCoreOf (m : ModuleSyntax) (core : ModuleCore) : Type 0 where
 
 -- where the names of the module are names of the language and it is not too deep, so it is with the core
 abbrev pub StaysTextLike : ModuleSyntax → ModuleCore → Type 0
-StaysTextLike m core = text.TextLike IsName m → core.TextLike IsName core
+StaysTextLike m core = text.TextLike IsName m → cores.TextLike IsName core
 
 -- the first fault of the module, which has no other first one; then the module stands for no core
 pub record IsFaultOf (m : ModuleSyntax) (fault : RuleFault) : Type 0 where

@@ -16,8 +16,8 @@ loop-found-preserved c =
     let x : StructDef = c.found-item.result in
     let y : StructDef = c.in_ok-next.next in
     record {
-      fit = rest_fits t c.add_struct.new.table structs at x y c.loop-found-test.true c.found-item.is c.in_ok-next.ensures c.loop-found.invariant.fit c.in_ok-add_struct.ensures.ok;
-      structs = front_grows c.args.table.now.structs t.structs c.add_struct.new.table.structs structs at x y c.loop-found-test.true c.found-item.is c.in_ok-next.ensures c.loop-found.invariant.structs
+      fit = rest_fits t c.add_struct.new.self structs at x y c.loop-found-test.true c.found-item.is c.in_ok-next.ensures c.loop-found.invariant.fit c.in_ok-add_struct.ensures.ok;
+      structs = front_grows c.args.table.now.structs t.structs c.add_struct.new.self.structs structs at x y c.loop-found-test.true c.found-item.is c.in_ok-next.ensures c.loop-found.invariant.structs
           (ap (λ (z : Table). z.structs) c.in_ok-add_struct.ensures.ok);
       words = ap (λ (z : Table). z.words) c.in_ok-add_struct.ensures.ok ∙ c.loop-found.invariant.words;
     }

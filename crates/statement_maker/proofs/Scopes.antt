@@ -1,5 +1,5 @@
 -- Names that come into scope with their numbers, and are gone behind a block.
-use Rattle.std.proofs.Common.{◌≡◌, ℕ, zero, suc, List, [], ◌∷◌, ◌++◌, length, map, take, refl, sym, subst, ap, ap₂, ◌∙◌, ◌+◌, ◌≤◌, arith, length-append, length-map}
+use Rattle.std.proofs.Common.{◌≡◌, ℕ, zero, suc, List, [], ◌∷◌, ◌++◌, length, map, take, refl, sym, subst, ap, ap₂, ◌∙◌, ◌+◌, ◌≤◌, arith, length-append}
 use Rattle.std.specs.Prelude.{Option, Some, None, option_map}
 use Rattle.std.proofs.lemmas.List.{map-append, take-append-le, take_all, take-take, take_at, length-take}
 use Rattle.ivory_tree.specs.Syntax.{Word}
@@ -19,15 +19,19 @@ use Rattle.statement_rules.specs.Kept as contexts
 use Rattle.statement_rules.proofs.Scopes as scopes
 use Rattle.core_maker.specs.Places.{scope_of, env_of, Agrees}
 use Rattle.core_maker.specs.declared.place.Place.{Place}
-use Rattle.statement_maker.specs.Places.{Kept, Stays}
+use Rattle.statement_maker.specs.Places.{Kept, Stays, with_locals}
+use Rattle.statement_maker.specs.Leaving.{around_of, left_with}
 
 -- ---- one more name
 
-abbrev named : Word → ValueType → Local
+abbrev pub named : Word → ValueType → Local
 named name t = record { name = name; ty = Some t }
 
+abbrev pub place_with : Place → List Local → List ℕ → List ValueType → Place
+place_with p scope numbers locals = record { context = record p.context { scope = scope }; numbers = numbers; locals = locals }
+
 abbrev pub with_name : Place → Word → ValueType → ℕ → Place
-with_name p name t n = record { context = record p.context { scope = p.context.scope ++ named name t ∷ [] }; numbers = p.numbers ++ n ∷ []; locals = p.locals ++ t ∷ [] }
+with_name p name t n = place_with p (p.context.scope ++ named name t ∷ []) (p.numbers ++ n ∷ []) (p.locals ++ t ∷ [])
 
 abbrev entry : Local → ℕ → typing.Local
 entry l n = record { name = l.name; number = n; ty = type_or (option_map type_of l.ty) }
@@ -69,6 +73,14 @@ named_stays p name t n a is = record {
   agrees = record { known = named_known p name t n a is; numbered = named_numbered p name t n a };
 }
 
+-- the same, of lists that are so
+pub pushed_stays : (p : Place) (name : Word) (t : ValueType) (n : ℕ) (scope : List Local) (numbers : List ℕ) (locals : List ValueType) → Agrees p → n ≡ typing.next (env_of p)
+    → scope ≡ p.context.scope ++ named name t ∷ [] → numbers ≡ p.numbers ++ n ∷ [] → locals ≡ p.locals ++ t ∷ [] → Stays p (place_with p scope numbers locals)
+pushed_stays p name t n scope numbers locals a is scope_is numbers_are locals_are =
+    subst (λ (xs : List Local). Stays p (place_with p xs numbers locals)) (sym scope_is)
+    (subst (λ (ns : List ℕ). Stays p (place_with p (p.context.scope ++ named name t ∷ []) ns locals)) (sym numbers_are)
+    (subst (λ (ts : List ValueType). Stays p (place_with p (p.context.scope ++ named name t ∷ []) (p.numbers ++ n ∷ []) ts)) (sym locals_are) (named_stays p name t n a is)))
+
 -- ---- more behind more
 
 pub stays : (p : Place) → Agrees p → Stays p p
@@ -88,15 +100,8 @@ stays_both a b c first second = record { kept = kept_both a b c first.kept secon
 
 -- ---- behind a block
 
--- the first names alone in scope, and this allowed
-abbrev pub left_with : Place → (names numbers : ℕ) → Allowed → Place
-left_with p names numbers allowed = record { context = record p.context { allowed = allowed; scope = take names p.context.scope }; numbers = take numbers p.numbers; locals = p.locals }
-
 abbrev pub with_allowed : Place → Allowed → Place
 with_allowed p allowed = record p { context = scopes.with_allowed p.context allowed }
-
-abbrev pub with_locals : Place → List ValueType → Place
-with_locals p locals = record p { locals = locals }
 
 pub allowed_agrees : (p : Place) (allowed : Allowed) → Agrees p → Agrees (with_allowed p allowed)
 allowed_agrees p allowed a = record { known = ap (λ (c : faults.Context). with_permission c) a.known; numbered = a.numbered }
@@ -104,7 +109,7 @@ allowed_agrees p allowed a = record { known = ap (λ (c : faults.Context). with_
     with_permission : faults.Context → faults.Context
     with_permission c = record c { allowed = allowed }
 
-pub left_is : (a b : Place) (allowed : Allowed) → Kept (with_allowed a allowed) b → left_with b (length a.context.scope) (length a.numbers) a.context.allowed ≡ with_locals a b.locals
+pub left_is : (a b : Place) (allowed : Allowed) → Kept (with_allowed a allowed) b → left_with b (around_of a) ≡ with_locals a b.locals
 left_is a b allowed kept =
     ap₂ (λ (c : Context) (ns : List ℕ). place_of c ns b.locals) (scopes.left_allowed a.context b.context allowed kept.context) kept.numbers
   where
@@ -113,4 +118,4 @@ left_is a b allowed kept =
 
 -- with other locals a place stays
 pub same_stays : (a b : Place) → Agrees a → b ≡ with_locals a b.locals → Stays a b
-same_stays a b agrees same = subst (λ (p : Place). Stays a p) (sym same) (record { kept = (stays a agrees).kept; agrees = record { known = agrees.known; numbered = agrees.numbered } })
+same_stays a b agrees same = subst (λ (p : Place). Stays a p) (sym same) (record { kept = record { context = (stays a agrees).kept.context; numbers = (stays a agrees).kept.numbers }; agrees = record { known = agrees.known; numbered = agrees.numbered } })

@@ -1,5 +1,6 @@
 -- What stays of a place while statements are made: what was known before them, more names in scope, and more locals.
-use Rattle.std.specs.Prelude.{◌≡◌, length, take}
+use Rattle.std.specs.Prelude.{◌≡◌, List, length, take}
+use Rattle.area_types.specs.declared.ValueType.{ValueType}
 use Rattle.statement_rules.specs.Kept as contexts
 use Rattle.core_maker.specs.Places.{Agrees}
 use Rattle.core_maker.specs.declared.place.Place.{Place}
@@ -13,3 +14,6 @@ pub record Kept (before now : Place) : Type 0 where
 pub record Stays (before now : Place) : Type 0 where
   pub kept : Kept before now
   pub agrees : Agrees now
+
+abbrev pub with_locals : Place → List ValueType → Place
+with_locals place locals = record place { locals = locals }

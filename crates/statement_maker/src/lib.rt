@@ -2,6 +2,8 @@
 #![tactic(auto)]
 
 mod blocks;
+mod forms;
+mod nodes;
 mod scope;
 
 pub use blocks::block;

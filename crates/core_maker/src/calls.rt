@@ -56,7 +56,7 @@ fn argument_type<'a>(param: &'a Option<ValueType>) -> TypeRef<'a>
     }
 }
 
-#[tactic(auto, using(crate::proofs::Listed::no_arguments, crate::proofs::Listed::expr_pushed))]
+#[tactic(auto, using(crate::proofs::Listed::expr_pushed))]
 fn arguments(
     alloc: Global,
     place: &Place,

@@ -80,7 +80,6 @@ fn many(inits: Seq<CoreInit>) -> CoreInit
 
 /// Initializers for elements that are all such an area.
 #[cycle(inits)]
-#[tactic(auto, using(crate::proofs::Listed::ended_pushed, crate::proofs::Listed::ended_all))]
 fn elements(
     alloc: Global,
     place: &Place,
@@ -111,7 +110,7 @@ fn struct_fields<'a>(place: &'a Place, number: u32) -> &'a [FieldDef]
 
 /// Initializers for the fields of the struct of that number, from the first on.
 #[cycle(inits)]
-#[tactic(auto, using(crate::proofs::Listed::ended_pushed, crate::proofs::Listed::ended_all, crate::proofs::Listed::no_fields, crate::proofs::Listed::no_places))]
+#[tactic(auto, using(crate::proofs::Listed::no_fields, crate::proofs::Listed::no_places))]
 fn fields(
     alloc: Global,
     place: &Place,

@@ -1,6 +1,6 @@
 -- Names that must be apart are apart in the core: each stands at most once among those of its kind.
-use Rattle.std.proofs.Common.{◌≡◌, ◌≢◌, ℕ, zero, suc, ◌+◌, ◌<◌, ◌≤◌, List, [], ◌∷◌, ◌++◌, map, length, Bool, true, false, cond, ◌&&◌, ◌||◌, All, AllPairs, Contains, IsTrue, Option, Some, None, refl, sym, ◌∙◌, ap, subst, arith, eq-eqb, nat_eq, append_assoc, append-nil}
-use Rattle.std.specs.List.{list_any, list_all}
+use Rattle.std.proofs.Common.{◌≡◌, ◌≢◌, ℕ, ◌+◌, ◌≤◌, List, [], ◌∷◌, ◌++◌, map, length, Bool, true, false, cond, ◌||◌, All, Contains, Some, None, refl, sym, ◌∙◌, ap, subst, arith, nat_eq, append_assoc, append-nil}
+use Rattle.std.specs.List.{list_any}
 use Rattle.std.proofs.lemmas.List.Elements.{All-head, All-tail, All-cons, All-nil, All-push, All-append, All-contains, All-weaker}
 use Rattle.std.proofs.lemmas.List.Kept.{AllPairs-cons}
 use Rattle.iv_words.specs.Words.{same_word}
@@ -17,10 +17,9 @@ use Rattle.bit_data.specs.Layouts.{is_name_of, first_fault, wish_of, wishes_of, 
 use Rattle.bit_data.specs.declared.BitLayout.{BitLayout}
 use Rattle.bit_data.specs.declared.FieldBits.{FieldBits}
 use Rattle.bit_data.specs.declared.FieldWish.{FieldWish}
-use Rattle.bit_data.specs.declared.LayoutFault.{LayoutFault}
 use Rattle.bit_data.specs.declared.LayoutFault.TheVariants.{TwiceNamed, EmptyField}
 use Rattle.bit_data.proofs.Placed.{stands}
-use Rattle.core_tree.specs.Syntax.{AreaCore, ImportCore, ParamCore, ProcCore, ModuleCore}
+use Rattle.core_tree.specs.Syntax.{AreaCore, ImportCore, ProcCore, ModuleCore}
 use Rattle.core_tree.specs.Names.{item_names, type_names, struct_fields, bit_fields, param_names, AllDifferent, ParamsApart, NamesApart}
 use Rattle.source_types.specs.Environments.{Earlier, AreaDeclared, Callee, nothing_earlier, has_word, is_area, is_callee, is_item, is_struct, is_bits, is_type_name}
 use Rattle.source_types.specs.Items as text

@@ -1,5 +1,5 @@
 -- A call that stands is well typed in the core, and its result has a type that a value may have there.
-use Rattle.std.proofs.Common.{◌≡◌, ◌⊎◌, inl, inr, ℕ, List, [], ◌∷◌, map, slice_get, Option, Some, None, option_map, Bool, true, false, cond, not, All, IsTrue, refl, sym, ◌∙◌, ap, subst, filter}
+use Rattle.std.proofs.Common.{◌≡◌, inl, inr, ℕ, List, [], ◌∷◌, map, slice_get, Option, Some, None, option_map, Bool, true, false, cond, not, All, IsTrue, refl, sym, ◌∙◌, ap, subst, filter}
 use Rattle.std.specs.List.{find, position_from}
 use Rattle.std.proofs.lemmas.List.Elements.{All-head, All-tail, All-cons, All-nil}
 use Rattle.iv_words.specs.Words.{same_word}
@@ -12,22 +12,22 @@ use Rattle.area_types.specs.declared.region.Region.TheVariants.{Global, Param, O
 use Rattle.region_check.specs.Calls.{Reference, reference_of, FitsReference}
 use Rattle.region_check.specs.Found.{region_count}
 use Rattle.region_check.specs.Substitutions.{under, applied}
-use Rattle.core_tree.specs.Syntax.{ExprCore, CallCore, ImportCore, ProcCore, type_of}
+use Rattle.core_tree.specs.Syntax.{ExprCore, CallCore, type_of}
 use Rattle.core_tree.specs.Environments as around
 use Rattle.core_tree.specs.Environments.{Header, header_of}
 use Rattle.core_tree.specs.Types.{Fits, is_type}
-use Rattle.core_tree.specs.TypedExpressions.{ExprTyped, HasType}
+use Rattle.core_tree.specs.TypedExpressions.{ExprTyped}
 use Rattle.core_tree.specs.TypedCalls.{ArgumentsFit, CallTyped, CallHasType}
 use Rattle.source_types.specs.Environments.{Earlier, Callee, callee_named}
 use Rattle.typing_rules.specs.Environments.{Env, is_import, is_procedure, of_kind, callee_number}
 use Rattle.typing_rules.specs.Calls as rule
 use Rattle.typing_rules.specs.Calls.{Fit, Calls}
 use Rattle.typing_laws.proofs.Lookups.{some_same, same_equal, mapped}
-use Rattle.typing_laws.proofs.Callees.{IsIn, Occurs, determined_found}
+use Rattle.typing_laws.proofs.Callees.{Occurs, determined_found}
 use Rattle.core_validity.proofs.Lists.{found_at, front_at}
 use Rattle.core_validity.proofs.Types.{RegionIn, Usable, type_usable, value_usable}
 use Rattle.core_validity.proofs.Known.{IsHeader, IsImport, IsProc, import_header, proc_header, Known}
-use Rattle.core_validity.proofs.Expressions.{Around, Fine, has_fine, under_fine}
+use Rattle.core_validity.proofs.Expressions.{Around, has_fine, under_fine}
 
 -- ---- what is called
 

@@ -1,5 +1,5 @@
 -- The core of a module is as deep as its text at each expression and statement.
-use Rattle.std.proofs.Common.{◌≡◌, ℕ, ◌+◌, ◌≤◌, max, List, [], ◌∷◌, map, Option, Some, None, Bool, true, false, refl, sym, ◌∙◌, ap, ap₂, arith}
+use Rattle.std.proofs.Common.{◌≡◌, ℕ, ◌+◌, ◌≤◌, max, List, map, Option, Bool, true, false, refl, ◌∙◌, ap, ap₂, arith}
 use Rattle.ivory_tree.specs.Syntax as syntax
 use Rattle.ivory_tree.specs.Syntax.{ExprSyntax, InitSyntax, InitsSyntax, CallSyntax, StmtSyntax, BlockSyntax, StmtsSyntax, ContractSyntax, ItemSyntax}
 use Rattle.ivory_tree.specs.Depth as text
@@ -11,7 +11,7 @@ use Rattle.area_types.specs.declared.region.Region.{Region}
 use Rattle.bit_data.specs.declared.BitLayout.{BitLayout}
 use Rattle.core_tree.specs.Syntax as core
 use Rattle.core_tree.specs.Syntax.{ExprCore, InitCore, InitsCore, CallCore, StmtCore, StmtsCore, ContractCore, AreaCore, ImportCore, ProcCore, ModuleCore}
-use Rattle.core_tree.specs.Depth.{expr_depth, init_depth, inits_depth, call_depth, stmt_depth, stmts_depth, contract_depth, proc_depth, module_depth}
+use Rattle.core_tree.specs.Depth.{expr_depth, init_depth, inits_depth, call_depth, stmt_depth, stmts_depth, contract_depth, proc_depth}
 use Rattle.source_types.specs.Environments.{Earlier}
 use Rattle.typing_rules.specs.Environments.{Env}
 use Rattle.typing_rules.specs.Wholes.{is_chain_prefix, is_postfix_prefix, part}

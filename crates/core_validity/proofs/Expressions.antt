@@ -1,6 +1,5 @@
 -- What has a type is a well typed expression of the core, and its type is one that a value may have there.
-use Rattle.std.proofs.Common.{◌≡◌, ◌⊎◌, inl, inr, ℕ, ℤ, pos, List, [], map, slice_get, Contains, Option, Some, None, Bool, true, false, cond, not, ◌&&◌, ◌||◌, IsTrue, refl, sym, ◌∙◌, ap, subst}
-use Rattle.iv_words.specs.declared.IntKind.{IntKind}
+use Rattle.std.proofs.Common.{◌≡◌, inl, inr, ℕ, ℤ, List, [], slice_get, Contains, Some, Bool, true, false, cond, not, ◌||◌, IsTrue, refl, sym, ◌∙◌, ap, subst}
 use Rattle.iv_words.specs.declared.Span.{Span}
 use Rattle.iv_words.specs.Words.{same_word}
 use Rattle.ivory_tree.specs.Syntax.{Word, ExprSyntax}
@@ -19,13 +18,12 @@ use Rattle.bit_data.specs.Layouts.{placed_at}
 use Rattle.core_tree.specs.Syntax as core
 use Rattle.core_tree.specs.Syntax.{ExprCore, Label, type_of}
 use Rattle.core_tree.specs.Operators.{operator_sites, prefix_sites, cast_sites, result_type}
-use Rattle.core_tree.specs.Settled.{is_settled, are_settled}
+use Rattle.core_tree.specs.Settled.{are_settled}
 use Rattle.core_tree.specs.Environments as around
 use Rattle.core_tree.specs.Types.{is_core_area}
-use Rattle.core_tree.specs.TypedExpressions.{Checked, PrefixTyped, PrefixedTyped, BinaryTyped, ElementTyped, ExprTyped, HasType}
-use Rattle.core_tree.specs.declared.Check.{Check}
+use Rattle.core_tree.specs.TypedExpressions.{Checked, PrefixTyped, PrefixedTyped, BinaryTyped, ExprTyped, HasType}
 use Rattle.core_tree.specs.declared.SiteKind.{SiteKind}
-use Rattle.source_types.specs.Environments.{Earlier, AreaDeclared, number_of_bits}
+use Rattle.source_types.specs.Environments.{Earlier, AreaDeclared}
 use Rattle.source_types.specs.Parts.{bit_field_type, bit_field_named, bit_field_number, field_number, field_type}
 use Rattle.source_types.specs.Operators.{is_logic, is_comparison, gives_truth, is_for, is_arithmetic, prefix_is_for}
 use Rattle.source_types.specs.Settled.{settled}
@@ -40,7 +38,7 @@ use Rattle.typing_laws.proofs.Lookups.{mapped}
 use Rattle.typing_laws.proofs.TypesAgree.{has_settled}
 use Rattle.typing_laws.proofs.Made.{position_below, below_zero}
 use Rattle.core_validity.proofs.Lists.{found_at, front_at}
-use Rattle.core_validity.proofs.Types.{RegionIn, Usable, area_parts, element_area, held_usable, number_held}
+use Rattle.core_validity.proofs.Types.{Usable, area_parts, element_area, held_usable, number_held}
 use Rattle.core_validity.proofs.Known.{IsArea, Known}
 use Rattle.core_validity.proofs.Forms.{same_kind_unchecked, no_truth_compares, logic_compares, has_is_settled, part_settled, part_typed, part_type, settled_by_left, settled_by_right, settled_anyhow}
 use Rattle.core_validity.proofs.Parts.{integer_is, stored_behind, has_word, bits_usable, has_bit_field, bit_type_usable, has_field}

@@ -1,5 +1,5 @@
 -- The first values of an area of the module fit its cells, one a cell.
-use Rattle.std.proofs.Common.{◌≡◌, ℕ, zero, suc, ◌+◌, ◌*◌, ◌-◌, ◌<◌, ◌≤◌, ℤ, pos, List, [], ◌∷◌, ◌++◌, length, slice_get, take, drop, map, Option, Some, None, option_map, Bool, true, false, ◌&&◌, IsTrue, refl, sym, ◌∙◌, ap, subst, arith, length-append, take-append-drop, length-take-le}
+use Rattle.std.proofs.Common.{◌≡◌, ℕ, zero, suc, ◌+◌, ◌*◌, ◌-◌, ◌<◌, ◌≤◌, ℤ, List, [], ◌∷◌, ◌++◌, length, slice_get, take, drop, Some, option_map, true, false, IsTrue, refl, sym, ◌∙◌, ap, subst, arith, length-append, take-append-drop, length-take-le}
 use Rattle.std.specs.List.{list_all}
 use Rattle.iv_words.specs.declared.IntKind.{IntKind}
 use Rattle.ivory_tree.specs.Syntax as syntax
@@ -11,7 +11,7 @@ use Rattle.type_trees.proofs.Scalars.{length_repeated, length_scalars, length_sc
 use Rattle.area_types.specs.Syntax as types
 use Rattle.area_types.specs.Syntax.{ValueType, Area, StructType}
 use Rattle.area_types.specs.Tables.{Table, is_length, is_made_of, is_field, has_index_lengths, fits_after, fit_after}
-use Rattle.area_types.specs.Trees.{Written, WrittenRow, tree_of, fields_from, fields_of, trees_of}
+use Rattle.area_types.specs.Trees.{Written, tree_of, fields_from, fields_of, trees_of}
 use Rattle.area_types.proofs.Truths.{both, also}
 use Rattle.area_types.proofs.Written.{struct_found}
 use Rattle.area_types.proofs.Sound.{fitting, length-trees_of}
@@ -32,7 +32,7 @@ use Rattle.typing_laws.proofs.Lookups.{mapped, and_both}
 use Rattle.typing_laws.proofs.TypesAgree.{has_settled}
 use Rattle.core_validity.proofs.Lists.{Begins, begins_at, get_mapped, get_within}
 use Rattle.core_validity.proofs.Sizes.{written_more, made_within}
-use Rattle.core_validity.proofs.Values.{fit_both, so_many_zeros, zero_repeated, Zero, ZeroTree, zero_tree, zero_row, zero_table}
+use Rattle.core_validity.proofs.Values.{fit_both, so_many_zeros, zero_repeated, ZeroTree, zero_tree, zero_row, zero_table}
 
 -- ---- constants
 

@@ -1,8 +1,7 @@
 -- Facts of forms, one by one: which operators are comparisons, which cores are settled, and what a prefix of a chain keeps.
-use Rattle.std.proofs.Common.{◌≡◌, ℕ, List, [], map, Bool, true, false, not, ◌&&◌, ◌||◌, IsTrue, Option, Some, None, refl, sym, ◌∙◌, ap, subst}
+use Rattle.std.proofs.Common.{◌≡◌, ℕ, List, [], Bool, true, false, not, ◌||◌, IsTrue, refl, sym, ◌∙◌, ap}
 use Rattle.iv_words.specs.declared.IntKind.{IntKind}
 use Rattle.iv_words.specs.declared.IntKind.TheVariants.{U8, U16, U32, U64, I8, I16, I32, I64}
-use Rattle.iv_words.specs.declared.Span.{Span}
 use Rattle.ivory_tree.specs.Syntax.{ExprSyntax}
 use Rattle.ivory_tree.specs.declared.expr.BinOp.{BinOp}
 use Rattle.ivory_tree.specs.declared.expr.BinOp.TheVariants.{OrElse, AndAlso, Or, Xor, And, Eq, Ne, Lt, Le, Gt, Ge, Shl, Shr, Add, Sub, WrapAdd, WrapSub, Mul, Div, Rem, WrapMul}
@@ -17,7 +16,7 @@ use Rattle.core_tree.specs.Settled.{is_settled, are_settled}
 use Rattle.core_tree.specs.Operators.{cast_sites}
 use Rattle.core_tree.specs.Environments as around
 use Rattle.core_tree.specs.TypedExpressions.{ExprTyped}
-use Rattle.source_types.specs.Operators.{is_logic, gives_truth, is_arithmetic}
+use Rattle.source_types.specs.Operators.{is_logic, gives_truth}
 use Rattle.typing_rules.specs.Environments.{Env}
 use Rattle.typing_rules.specs.Wholes.{is_chain_prefix, part}
 use Rattle.typing_rules.specs.Expressions as rule

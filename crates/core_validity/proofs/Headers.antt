@@ -1,5 +1,5 @@
 -- The types of a header: its region parameters are numbered as they first occur, and each type is one of the core's table.
-use Rattle.std.proofs.Common.{◌≡◌, ℕ, zero, suc, ◌+◌, ◌<◌, ◌≤◌, max, List, [], ◌∷◌, ◌++◌, map, length, Option, Some, None, option_map, option_and_then, Bool, true, false, cond, ◌&&◌, ◌||◌, All, IsTrue, refl, sym, ◌∙◌, ap, subst, arith, nat_le, le-leb, eq-eqb, length-append, append_assoc, append-nil, IfSome}
+use Rattle.std.proofs.Common.{◌≡◌, ℕ, zero, suc, ◌+◌, ◌<◌, List, [], ◌∷◌, ◌++◌, map, length, Option, Some, None, option_map, Bool, true, false, cond, ◌&&◌, ◌||◌, All, IsTrue, refl, sym, ◌∙◌, ap, subst, arith, le-leb, eq-eqb, length-append, append_assoc, append-nil, IfSome}
 use Rattle.std.specs.List.{list_all, list_any, position_from}
 use Rattle.std.proofs.lemmas.List.Elements.{All-head, All-tail, All-cons, All-nil}
 use Rattle.iv_words.specs.Words.{same_word}
@@ -13,17 +13,16 @@ use Rattle.area_types.specs.Syntax.{ValueType, Area}
 use Rattle.area_types.specs.Tables.{Table, written_out}
 use Rattle.area_types.specs.Trees.{Written, WrittenRow}
 use Rattle.area_types.specs.declared.region.Region.{Region}
-use Rattle.area_types.specs.declared.region.Region.TheVariants.{Global, Param, Own}
-use Rattle.area_types.proofs.Truths.{both}
+use Rattle.area_types.specs.declared.region.Region.TheVariants.{Global, Param}
 use Rattle.region_check.specs.Calls.{reference_of}
-use Rattle.region_check.specs.Found.{may_come, occurred, may_follow, count_with, is_numbered, region_count}
+use Rattle.region_check.specs.Found.{may_follow, count_with, is_numbered, region_count}
 use Rattle.core_tree.specs.Types.{is_type}
-use Rattle.core_tree.specs.Environments.{Header, type_of_plain}
+use Rattle.core_tree.specs.Environments.{type_of_plain}
 use Rattle.core_tree.specs.TypedItems.{ParamsTyped, is_given_plain}
 use Rattle.source_types.specs.Environments.{Earlier, has_word, number_of_bits}
 use Rattle.source_types.specs.Values.{is_plain}
-use Rattle.source_types.specs.Written.{with_region, with_regions, regions_of, region_in, type_in, area_in, callee_in}
-use Rattle.typing_rules.specs.Areas.{NamesType, has_small_area, written}
+use Rattle.source_types.specs.Written.{with_region, with_regions, region_in, type_in, area_in, callee_in}
+use Rattle.typing_rules.specs.Areas.{written}
 use Rattle.typing_rules.specs.Environments.{Env}
 use Rattle.typing_rules.specs.Items as item
 use Rattle.typing_rules.specs.Items.{Params, Results, StandsHeader, none_or_plain, plain_result, has_plain_cells, have_plain_cells, writes_plain}
@@ -31,7 +30,6 @@ use Rattle.typing_rules.specs.WellTyped.{at_header}
 use Rattle.typing_laws.proofs.Lookups.{some_same, and_both, mapped}
 use Rattle.typing_laws.proofs.CleanAreas.{index_length, ref_parts}
 use Rattle.typing_laws.proofs.CleanItems.{results_agree}
-use Rattle.typing_laws.proofs.Made.{position_below, below_zero}
 use Rattle.core_validity.proofs.Lists.{Begins}
 use Rattle.core_validity.proofs.Known.{IsHeader}
 use Rattle.core_validity.proofs.Named.{Grows, index_is, names_type, written_same}

@@ -1,5 +1,5 @@
 -- An initializer that fills an area fits it in the core.
-use Rattle.std.proofs.Common.{◌≡◌, ℕ, zero, suc, ◌+◌, ◌<◌, ◌≤◌, List, [], ◌∷◌, slice_get, Option, Some, None, option_map, option_and_then, Bool, true, false, cond, All, IsTrue, refl, sym, ◌∙◌, ap, subst, arith, nat_lt, lt-ltb}
+use Rattle.std.proofs.Common.{◌≡◌, ℕ, suc, ◌+◌, ◌<◌, ◌≤◌, List, [], ◌∷◌, slice_get, Some, None, option_map, option_and_then, cond, All, IsTrue, sym, ◌∙◌, ap, subst, arith, lt-ltb}
 use Rattle.std.proofs.lemmas.List.Elements.{All-head, All-tail}
 use Rattle.ivory_tree.specs.Syntax.{InitSyntax, InitsSyntax}
 use Rattle.area_types.specs.Syntax as types
@@ -14,8 +14,7 @@ use Rattle.core_tree.specs.TypedInits.{place, InitTyped, InitsTyped}
 use Rattle.typing_rules.specs.Environments.{Env}
 use Rattle.typing_rules.specs.Initializers as rule
 use Rattle.typing_rules.specs.Initializers.{Fills, FillElements, FillFields}
-use Rattle.typing_laws.proofs.Lookups.{some_same}
-use Rattle.core_validity.proofs.Types.{Usable, element_area, held_usable}
+use Rattle.core_validity.proofs.Types.{element_area, held_usable}
 use Rattle.core_validity.proofs.Known.{struct_at}
 use Rattle.core_validity.proofs.Expressions.{Around, under_fine}
 

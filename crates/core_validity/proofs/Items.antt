@@ -1,5 +1,5 @@
 -- The items of a module that stands: each is well typed in the core, and then known to those that follow.
-use Rattle.std.proofs.Common.{◌≡◌, ◌≢◌, ℕ, zero, suc, ◌+◌, ◌<◌, ◌≤◌, List, [], ◌∷◌, ◌++◌, map, length, take, slice_get, Option, Some, None, option_map, Bool, true, false, not, cond, ◌&&◌, ◌||◌, All, IsTrue, IfSome, filter, ℤ, Ok, Err, eq-eqb, nat_eq, refl, sym, ◌∙◌, ap, subst, arith, length-append, append_assoc, append-nil}
+use Rattle.std.proofs.Common.{◌≡◌, ◌≢◌, ℕ, suc, ◌+◌, ◌<◌, ◌≤◌, List, [], ◌∷◌, ◌++◌, map, length, Option, Some, None, option_map, Bool, true, false, not, cond, ◌&&◌, ◌||◌, All, IsTrue, filter, ℤ, Ok, Err, eq-eqb, nat_eq, refl, sym, ◌∙◌, ap, subst, arith, length-append, append_assoc, append-nil}
 use Rattle.std.specs.List.{list_all}
 use Rattle.std.specs.Prelude.{nat_lt}
 use Rattle.std.proofs.lemmas.List.{length-map}
@@ -7,16 +7,16 @@ use Rattle.std.proofs.lemmas.List.Elements.{All-head, All-tail, All-cons, All-ni
 use Rattle.iv_words.specs.declared.IntKind.{IntKind}
 use Rattle.ivory_tree.specs.Syntax as syntax
 use Rattle.ivory_tree.specs.Syntax.{Word, FieldSyntax, StructSyntax, GlobalSyntax, HeaderSyntax, ProcSyntax, InitSyntax, ItemSyntax}
-use Rattle.ivory_tree.specs.Nodes.{item_node, nodes_from, nodes_count, field_node}
-use Rattle.ivory_tree.specs.Formed.{FormedBitField, FormedField, FormedParam, FormedItem}
+use Rattle.ivory_tree.specs.Nodes.{item_node, nodes_from, nodes_count}
+use Rattle.ivory_tree.specs.Formed.{FormedBitField, FormedField, FormedItem}
 use Rattle.ivory_tree.specs.declared.items.BitField.{BitField}
 use Rattle.ivory_tree.specs.declared.items.BitsItem.{BitsItem}
 use Rattle.type_trees.specs.Trees as trees
 use Rattle.type_trees.specs.Trees.{scalars, count}
 use Rattle.area_types.specs.Syntax as types
 use Rattle.area_types.specs.Syntax.{ValueType, Area, StructType}
-use Rattle.area_types.specs.Tables.{Table, structs_of, is_made_of, is_field, has_index_lengths, is_small, is_number, fits_after, fit_after, is_table, written_out}
-use Rattle.area_types.specs.Trees.{tree_of, fields_of, trees_of}
+use Rattle.area_types.specs.Tables.{Table, structs_of, is_made_of, is_field, has_index_lengths, is_small, is_number, fits_after, is_table, written_out}
+use Rattle.area_types.specs.Trees.{fields_of, trees_of}
 use Rattle.area_types.proofs.Truths.{also, below_is}
 use Rattle.area_types.proofs.Sound.{fit_last}
 use Rattle.area_types.proofs.Words.{table_more}
@@ -30,10 +30,10 @@ use Rattle.core_tree.specs.Syntax.{AreaCore, ImportCore, ProcCore, ModuleCore}
 use Rattle.core_tree.specs.Environments.{type_of_plain}
 use Rattle.core_tree.specs.Types.{is_core_area}
 use Rattle.core_tree.specs.TypedItems.{ValuesFit, AreaTyped, ImportTyped, ProcTyped}
-use Rattle.source_types.specs.Environments.{Earlier, AreaDeclared, Callee, words}
+use Rattle.source_types.specs.Environments.{Earlier, Callee, words}
 use Rattle.source_types.specs.Items.{after}
-use Rattle.source_types.specs.Written.{struct_in, global_in, callee_in, area_in}
-use Rattle.typing_rules.specs.Areas.{NamesArea, written}
+use Rattle.source_types.specs.Written.{struct_in, global_in, callee_in}
+use Rattle.typing_rules.specs.Areas.{written}
 use Rattle.typing_rules.specs.Environments.{Env, is_import, is_procedure, of_kind}
 use Rattle.typing_rules.specs.Items as item
 use Rattle.typing_rules.specs.Items.{wish_of, StandsBits, Fields, StandsStruct, FirstValues, StandsArea, StandsImport, StandsProc}
@@ -47,7 +47,7 @@ use Rattle.core_validity.specs.Laws.{most_nodes}
 use Rattle.core_validity.proofs.Lists.{Begins, begins_at, Front, front_next, front_more}
 use Rattle.core_validity.proofs.Types.{area_parts}
 use Rattle.core_validity.proofs.Known.{IsLaid, HasAreas, IsArea, IsImport, IsProc, Known, IsHeader}
-use Rattle.core_validity.proofs.Named.{Grows, MadeOf, made_of, names_areas, written_same}
+use Rattle.core_validity.proofs.Named.{Grows, made_of, names_areas, written_same}
 use Rattle.core_validity.proofs.FirstValues.{Cells, CellArea, zeros_in_area, cells_fit}
 use Rattle.core_validity.proofs.Headers.{header_typed, header_is, plain_back, params_given}
 use Rattle.core_validity.proofs.Procedures.{param_types_are, params_long, proc_typed}

@@ -1,7 +1,7 @@
 -- Searches in lists, and lists whose elements are related to those at the front of another one.
-use Rattle.std.proofs.Common.{◌≡◌, ℕ, zero, suc, ◌+◌, ◌<◌, List, [], ◌∷◌, ◌++◌, map, length, slice_get, Option, Some, None, option_map, Bool, true, false, cond, refl, sym, ◌∙◌, ap, subst, arith, All, length-append}
+use Rattle.std.proofs.Common.{◌≡◌, ℕ, zero, suc, ◌+◌, ◌<◌, List, [], ◌∷◌, ◌++◌, map, length, slice_get, Some, option_map, Bool, true, false, cond, refl, sym, ◌∙◌, ap, subst, arith, All, length-append}
 use Rattle.std.specs.List.{find, position_from}
-use Rattle.std.proofs.lemmas.List.Elements.{All-head, All-tail, All-cons, All-nil}
+use Rattle.std.proofs.lemmas.List.Elements.{All-head, All-tail}
 use Rattle.typing_laws.proofs.Lookups.{some_same}
 
 -- ---- searches

@@ -1,7 +1,6 @@
 -- The areas and types that a text names are areas and types of the core's table.
-use Rattle.std.proofs.Common.{◌≡◌, ℕ, zero, suc, ◌+◌, ◌<◌, ◌≤◌, List, [], ◌∷◌, ◌++◌, length, Option, Some, None, option_map, Bool, true, false, cond, ◌&&◌, IsTrue, refl, sym, ◌∙◌, ap, subst, arith, length-append}
+use Rattle.std.proofs.Common.{◌≡◌, ℕ, ◌<◌, ◌≤◌, List, [], ◌++◌, length, Some, None, Bool, true, false, cond, IsTrue, refl, sym, ◌∙◌, ap, subst, arith, length-append}
 use Rattle.std.specs.List.{position_from}
-use Rattle.std.specs.Prelude.{nat_lt}
 use Rattle.std.proofs.lemmas.List.{length-map}
 use Rattle.iv_words.specs.declared.IntKind.{IntKind}
 use Rattle.iv_words.specs.Words.{same_word}
@@ -15,10 +14,9 @@ use Rattle.area_types.specs.Syntax.{ValueType, Area, StructType}
 use Rattle.area_types.specs.Tables.{Table, structs_of, is_length, is_stored, is_made_of, has_index_length, has_index_lengths, is_small, is_table, written_out}
 use Rattle.area_types.specs.Trees.{tree_of, trees_of}
 use Rattle.area_types.specs.View.{struct_of}
-use Rattle.area_types.specs.declared.StructDef.{StructDef}
 use Rattle.area_types.specs.declared.region.Region.{Region}
-use Rattle.area_types.specs.declared.region.Region.TheVariants.{Global, Param, Own}
-use Rattle.area_types.proofs.Truths.{both, also, below_is}
+use Rattle.area_types.specs.declared.region.Region.TheVariants.{Param}
+use Rattle.area_types.proofs.Truths.{also, below_is}
 use Rattle.area_types.proofs.Sound.{sound_area}
 use Rattle.core_tree.specs.Types.{is_core_area, is_region, is_type}
 use Rattle.source_types.specs.Environments.{Earlier, words, number_of_bits, number_of_struct}

@@ -1,7 +1,6 @@
 -- What a core has where the text names a part: the word and the fields of bit data, and the fields of structs.
-use Rattle.std.proofs.Common.{◌≡◌, ℕ, zero, suc, ◌+◌, ◌<◌, List, [], ◌∷◌, map, length, slice_get, Option, Some, None, option_map, option_and_then, Bool, true, false, cond, All, IsTrue, refl, sym, ◌∙◌, ap, subst, arith}
+use Rattle.std.proofs.Common.{◌≡◌, ℕ, zero, suc, ◌+◌, ◌<◌, List, [], ◌∷◌, map, length, slice_get, Some, option_map, option_and_then, Bool, true, false, cond, IsTrue, refl, sym, ◌∙◌, ap, arith}
 use Rattle.std.specs.List.{find, position_from}
-use Rattle.std.specs.Prelude.{nat_lt}
 use Rattle.std.proofs.lemmas.List.{length-map}
 use Rattle.iv_words.specs.declared.IntKind.{IntKind}
 use Rattle.iv_words.specs.Words.{same_word}
@@ -16,7 +15,6 @@ use Rattle.area_types.specs.declared.region.Region.{Region}
 use Rattle.area_types.proofs.Truths.{below_is}
 use Rattle.bit_data.specs.Layouts.{placed_at, placed_from}
 use Rattle.bit_data.specs.declared.BitLayout.{BitLayout}
-use Rattle.bit_data.specs.declared.FieldBits.{FieldBits}
 use Rattle.bit_data.specs.declared.FieldWish.{FieldWish}
 use Rattle.core_tree.specs.Syntax.{ProcCore, ModuleCore}
 use Rattle.core_tree.specs.Environments.{bit_field, struct_field}
@@ -26,7 +24,7 @@ use Rattle.source_types.specs.Parts.{stored_type, word_type, bit_field_type, bit
 use Rattle.source_types.specs.Values.{is_integer, least_unsigned}
 use Rattle.typing_rules.specs.Items.{wish_of}
 use Rattle.typing_laws.proofs.Lookups.{some_same, mapped, bound}
-use Rattle.core_validity.proofs.Lists.{found_at, All-at, get_mapped, get_within, begins_length, front_at}
+use Rattle.core_validity.proofs.Lists.{found_at, All-at, get_mapped, begins_length, front_at}
 use Rattle.core_validity.proofs.Types.{Usable}
 use Rattle.core_validity.proofs.Known.{IsLaid, Known, struct_at}
 

@@ -1,7 +1,5 @@
 -- A core falls through, and breaks, where the text does; and how many locals a statement adds.
-use Rattle.std.proofs.Common.{◌≡◌, ℕ, ◌+◌, List, [], ◌∷◌, ◌++◌, length, Bool, true, false, ◌&&◌, ◌||◌, refl, sym, ◌∙◌, ap, ap₂, arith, append_assoc, append-nil, length-append}
-use Rattle.iv_words.specs.declared.Name.{Name}
-use Rattle.ivory_tree.specs.Syntax as syntax
+use Rattle.std.proofs.Common.{◌≡◌, ℕ, ◌+◌, List, [], ◌∷◌, ◌++◌, length, true, false, ◌&&◌, ◌||◌, refl, sym, ◌∙◌, ap, ap₂, arith, append_assoc, append-nil, length-append}
 use Rattle.ivory_tree.specs.Syntax.{StmtSyntax, BlockSyntax, StmtsSyntax}
 use Rattle.area_types.specs.Syntax as types
 use Rattle.area_types.specs.Syntax.{ValueType}

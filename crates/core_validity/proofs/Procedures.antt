@@ -1,14 +1,13 @@
 -- A procedure that stands is well typed in the core, after the procedures before it.
-use Rattle.std.proofs.Common.{◌≡◌, ◌⊎◌, inl, inr, ℕ, zero, suc, ◌+◌, ◌<◌, ◌≤◌, List, [], ◌∷◌, ◌++◌, map, length, take, slice_get, Option, Some, None, is_some, is_none, Bool, true, false, not, if◌then◌else◌, ◌&&◌, ◌||◌, All, Contains, IsTrue, refl, sym, ◌∙◌, ap, subst, arith, length-append, append_assoc, append-nil}
+use Rattle.std.proofs.Common.{◌≡◌, ◌⊎◌, inl, inr, ℕ, zero, suc, ◌<◌, ◌≤◌, List, [], ◌∷◌, ◌++◌, map, length, take, slice_get, Option, Some, None, is_some, is_none, Bool, true, false, not, if◌then◌else◌, ◌&&◌, ◌||◌, All, Contains, IsTrue, refl, sym, ◌∙◌, ap, subst, arith, length-append, append_assoc, append-nil}
 use Rattle.std.specs.List.{list_all}
 use Rattle.std.proofs.lemmas.Bool.{cases_lt}
-use Rattle.std.proofs.lemmas.List.Elements.{All-head, All-tail, All-cons, All-nil, All-push, All-weaker}
+use Rattle.std.proofs.lemmas.List.Elements.{All-cons, All-nil, All-push, All-weaker}
 use Rattle.ivory_tree.specs.Syntax.{Word, ParamSyntax, ContractSyntax, ProcSyntax}
-use Rattle.ivory_tree.specs.Formed.{FormedContract, FormedProc}
+use Rattle.ivory_tree.specs.Formed.{FormedProc}
 use Rattle.area_types.specs.Syntax as types
 use Rattle.area_types.specs.Syntax.{ValueType}
 use Rattle.area_types.specs.Tables.{Table}
-use Rattle.control_effects.specs.Falling.{block_falls}
 use Rattle.region_check.specs.Found.{region_count}
 use Rattle.core_tree.specs.Syntax.{ContractCore, ProcCore, ModuleCore}
 use Rattle.core_tree.specs.Environments as around
@@ -29,8 +28,8 @@ use Rattle.core_validity.proofs.Types.{Usable, usable_local, type_usable}
 use Rattle.core_validity.proofs.Known.{Known}
 use Rattle.core_validity.proofs.Named.{NamesAreas, Grows, names_areas}
 use Rattle.core_validity.proofs.Headers.{HeaderTyped, header_typed}
-use Rattle.core_validity.proofs.Expressions.{OutcomeThere, Around, under_fine}
-use Rattle.core_validity.proofs.Paths.{Grown, block_falls_same, block_grows, begins_before}
+use Rattle.core_validity.proofs.Expressions.{Around, under_fine}
+use Rattle.core_validity.proofs.Paths.{block_falls_same, block_grows, begins_before}
 use Rattle.core_validity.proofs.Statements.{Seen, Here, around_here, block_fine}
 
 -- ---- parameters

@@ -1,5 +1,5 @@
 -- An area that is made of some structs and words is written out in the same way, and has the same size, where there are more of them.
-use Rattle.std.proofs.Common.{◌≡◌, ℕ, zero, suc, ◌+◌, ◌*◌, ◌<◌, ◌≤◌, List, [], ◌∷◌, ◌++◌, length, slice_get, unwrap_or, get_or, Option, Some, None, IsTrue, Bool, ◌&&◌, refl, sym, ◌∙◌, ap, subst, arith, nat_lt, nat_le, length-append, append_assoc}
+use Rattle.std.proofs.Common.{◌≡◌, ℕ, zero, suc, ◌+◌, ◌*◌, ◌<◌, ◌≤◌, List, [], ◌∷◌, ◌++◌, length, slice_get, unwrap_or, get_or, Some, IsTrue, ◌&&◌, refl, sym, ◌∙◌, ap, subst, arith, nat_le}
 use Rattle.std.specs.Option.{option_map_or}
 use Rattle.std.proofs.lemmas.Option.{slice_get-get_or}
 use Rattle.iv_words.specs.declared.IntKind.{IntKind}
@@ -15,7 +15,6 @@ use Rattle.area_types.specs.Trees.{Written, WrittenRow, tree_of, fields_of, tree
 use Rattle.area_types.proofs.Truths.{both, also, is_below, below_is}
 use Rattle.area_types.proofs.Written.{trees_kept}
 use Rattle.area_types.proofs.Sound.{Sound, SoundRow, length-trees_of}
-use Rattle.core_validity.proofs.Lists.{get_front}
 
 -- ---- more structs
 

@@ -1,10 +1,8 @@
 -- A statement that stands is well typed in the core, where it stands.
 use Rattle.std.proofs.Common.{◌≡◌, ℕ, zero, suc, ◌+◌, List, [], ◌∷◌, ◌++◌, length, slice_get, Contains, Option, Some, None, Bool, true, false, not, ◌||◌, All, IsTrue, refl, sym, ◌∙◌, ap, subst, arith, length-append}
-use Rattle.std.specs.List.{find}
-use Rattle.std.proofs.lemmas.List.Elements.{All-push, All-weaker, Contains-from_at}
+use Rattle.std.proofs.lemmas.List.Elements.{All-push, All-weaker}
 use Rattle.iv_words.specs.Words.{same_word}
 use Rattle.iv_words.specs.declared.Name.{Name}
-use Rattle.ivory_tree.specs.Syntax as syntax
 use Rattle.ivory_tree.specs.Syntax.{Word, ExprSyntax, InitSyntax, StmtSyntax, BlockSyntax, StmtsSyntax}
 use Rattle.ivory_tree.specs.Formed.{FormedStmt, FormedBlock, FormedStmts}
 use Rattle.area_types.specs.Syntax as types
@@ -13,7 +11,6 @@ use Rattle.area_types.specs.Tables.{Table, is_length}
 use Rattle.area_types.specs.declared.region.Region.{Region}
 use Rattle.area_types.specs.declared.region.Region.TheVariants.{Global, Param, Own}
 use Rattle.alloc_effects.specs.declared.allowed.Allowed.{Allowed}
-use Rattle.alloc_effects.specs.declared.allowed.Narrowing.{Narrowing}
 use Rattle.alloc_effects.specs.declared.allowed.Narrowing.TheVariants as narrowing
 use Rattle.alloc_effects.specs.Permissions.{narrowed, looped}
 use Rattle.region_check.specs.Calls.{Reference, reference_of}
@@ -26,7 +23,7 @@ use Rattle.core_tree.specs.Types.{is_type, is_core_area}
 use Rattle.core_tree.specs.Types as core_types
 use Rattle.core_tree.specs.TypedExpressions.{HasType}
 use Rattle.core_tree.specs.TypedStatements.{IsNext, MayInit, LoopTyped, CopyTyped, ReturnTyped, StmtTyped, StmtsTyped, is_last}
-use Rattle.typing_rules.specs.Environments.{Env, Local, local_named, next, with_local, after_block}
+use Rattle.typing_rules.specs.Environments.{Env, Local, next, with_local, after_block}
 use Rattle.typing_rules.specs.Statements as stands
 use Rattle.typing_rules.specs.Statements.{Copies, Fits, MayFill, Returns, StandsStmt, StandsBlock, StandAll, in_loop, in_counted, without, own}
 use Rattle.typing_laws.proofs.Lookups.{some_same}
@@ -34,7 +31,7 @@ use Rattle.core_validity.proofs.Lists.{All-at, All-found, get_front, get_next, B
 use Rattle.core_validity.proofs.Types.{Usable, held_usable, type_usable}
 use Rattle.core_validity.proofs.Known.{Known}
 use Rattle.core_validity.proofs.Forms.{has_is_settled}
-use Rattle.core_validity.proofs.Expressions.{LocalThere, OutcomeThere, Around, has_fine, under_fine}
+use Rattle.core_validity.proofs.Expressions.{Around, has_fine, under_fine}
 use Rattle.core_validity.proofs.Calls.{call_typed, call_fine}
 use Rattle.core_validity.proofs.Initializers.{init_typed}
 use Rattle.core_validity.proofs.Named.{NamesAreas}

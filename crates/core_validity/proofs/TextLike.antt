@@ -1,5 +1,5 @@
 -- The names of a core are names of its text; so the core of a module that is like a text is like one too.
-use Rattle.std.proofs.Common.{◌≡◌, ℕ, ◌+◌, ◌≤◌, List, [], ◌∷◌, ◌++◌, map, flat_map, All, Contains, refl, sym, ◌∙◌, ap, subst, le_trans}
+use Rattle.std.proofs.Common.{◌≡◌, ℕ, ◌+◌, List, [], ◌∷◌, ◌++◌, map, flat_map, All, Contains, refl, sym, ◌∙◌, ap, subst, le_trans}
 use Rattle.std.proofs.lemmas.List.Elements.{All-head, All-tail, All-cons, All-nil, All-push, All-append, All-contains_itself}
 use Rattle.ivory_tree.specs.Syntax as syntax
 use Rattle.ivory_tree.specs.Syntax.{Word, FieldSyntax, ParamSyntax, ItemSyntax, ModuleSyntax}
@@ -8,25 +8,22 @@ use Rattle.ivory_tree.specs.TextLike as tree
 use Rattle.ivory_tree.specs.declared.items.BitField.{BitField}
 use Rattle.area_types.specs.Syntax as types
 use Rattle.area_types.specs.Syntax.{StructType, ValueType}
-use Rattle.area_types.specs.Tables.{structs_of}
 use Rattle.area_types.specs.View.{struct_of}
 use Rattle.area_types.specs.declared.StructDef.{StructDef}
 use Rattle.bit_data.specs.Layouts.{placed_from}
 use Rattle.bit_data.specs.declared.BitLayout.{BitLayout}
-use Rattle.bit_data.specs.declared.FieldWish.{FieldWish}
 use Rattle.core_tree.specs.Syntax.{AreaCore, ImportCore, ProcCore, ModuleCore}
 use Rattle.core_tree.specs.Names.{module_names, struct_fields, bit_fields, param_names}
 use Rattle.core_tree.specs.TextLike.{TextLike}
-use Rattle.source_types.specs.Environments.{Earlier, nothing_earlier}
+use Rattle.source_types.specs.Environments.{Earlier}
 use Rattle.source_types.specs.Written.{struct_in}
-use Rattle.typing_rules.specs.Environments.{Env}
 use Rattle.typing_rules.specs.Items as item
 use Rattle.typing_rules.specs.Items.{Fields, Params, wish_of}
 use Rattle.typing_rules.specs.WellTyped as rule
 use Rattle.typing_rules.specs.WellTyped.{StandItems, Stands}
 use Rattle.core_validity.specs.Laws.{NamesAreOfTheText}
 use Rattle.core_validity.proofs.Items.{struct_is, bits_laid}
-use Rattle.core_validity.proofs.Apart.{all_unmapped, field_names_same, param_names_are}
+use Rattle.core_validity.proofs.Apart.{field_names_same, param_names_are}
 use Rattle.core_validity.proofs.Depths.{core_is_no_deeper}
 
 -- ---- parts of lists

@@ -1,5 +1,5 @@
 -- Types that a value may have in a core, where so many region parameters are known.
-use Rattle.std.proofs.Common.{◌≡◌, ℕ, ℤ, List, [], ◌∷◌, length, Bool, true, false, cond, ◌&&◌, ◌||◌, IsTrue, Option, Some, None, refl, sym, ◌∙◌, ap, subst, arith, nat_le, le-leb}
+use Rattle.std.proofs.Common.{◌≡◌, ℕ, ℤ, List, [], ◌∷◌, length, Bool, true, false, cond, ◌&&◌, ◌||◌, IsTrue, Some, None, refl, ap, arith, nat_le, le-leb}
 use Rattle.std.specs.Prelude.{nat_lt}
 use Rattle.area_types.specs.Syntax as types
 use Rattle.area_types.specs.Syntax.{ValueType, Area}
@@ -16,7 +16,7 @@ use Rattle.area_types.proofs.Truths.{both, also, is_at_most, below_is}
 use Rattle.region_check.specs.Calls.{reference_of}
 use Rattle.source_types.specs.Values.{is_plain, is_index_type, holds}
 use Rattle.core_tree.specs.Types.{is_core_area, is_type, is_value}
-use Rattle.core_tree.specs.TypedItems.{is_own, is_local_type}
+use Rattle.core_tree.specs.TypedItems.{is_local_type}
 
 -- ---- types
 

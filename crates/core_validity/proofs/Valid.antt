@@ -1,21 +1,18 @@
 -- What a module of the form of a text stands for is a valid core.
-use Rattle.std.proofs.Common.{◌≡◌, ℕ, zero, suc, ◌+◌, List, [], ◌∷◌, ◌++◌, map, length, take, slice_get, Some, IsTrue, All, refl, sym, ◌∙◌, ap, subst, arith, append_assoc, append-nil}
+use Rattle.std.proofs.Common.{◌≡◌, ℕ, zero, suc, List, [], ◌∷◌, ◌++◌, map, length, take, slice_get, Some, IsTrue, refl, sym, ◌∙◌, ap, subst, arith, append_assoc, append-nil}
 use Rattle.std.proofs.lemmas.List.Elements.{All-nil}
 use Rattle.iv_words.specs.declared.IntKind.{IntKind}
-use Rattle.ivory_tree.specs.Syntax.{ItemSyntax, ModuleSyntax}
+use Rattle.ivory_tree.specs.Syntax.{ItemSyntax}
 use Rattle.ivory_tree.specs.declared.items.BitsItem.{BitsItem}
-use Rattle.area_types.specs.Syntax.{StructType}
 use Rattle.area_types.specs.Tables.{structs_of, is_table}
 use Rattle.bit_data.specs.declared.BitLayout.{BitLayout}
 use Rattle.core_tree.specs.Syntax.{AreaCore, ImportCore, ProcCore, ModuleCore}
 use Rattle.core_tree.specs.TypedItems.{ProcTyped}
-use Rattle.core_tree.specs.Valid.{ProcsTyped, ValidCore}
 use Rattle.source_types.specs.Environments.{Earlier, nothing_earlier, words}
 use Rattle.typing_rules.specs.WellTyped as rule
 use Rattle.typing_rules.specs.WellTyped.{StandItems, Stands}
 use Rattle.typing_laws.proofs.Lookups.{some_same, map_last}
 use Rattle.core_validity.specs.Laws.{StandingIsValid}
-use Rattle.core_validity.proofs.Lists.{Begins}
 use Rattle.core_validity.proofs.Known.{HasAreas, Known}
 use Rattle.core_validity.proofs.Items.{Whole, SoFar, ProcsFrom, bits_laid, items_table, items_fine}
 use Rattle.core_validity.proofs.Apart.{names_apart}

@@ -1,6 +1,5 @@
 -- First values: lists of numbers that fit lists of types, and zero, which fits each type that is stored.
-use Rattle.std.proofs.Common.{◌≡◌, ℕ, zero, suc, ◌+◌, ◌*◌, ◌<◌, ◌≤◌, ℤ, pos, List, [], ◌∷◌, ◌++◌, length, slice_get, get_or, take, drop, unwrap_or, replicate, Option, Some, None, Bool, true, false, ◌&&◌, All, IsTrue, refl, sym, ◌∙◌, ap, subst, arith, length-append, le-leb}
-use Rattle.std.specs.Prelude.{int_lt}
+use Rattle.std.proofs.Common.{◌≡◌, ℕ, zero, suc, ◌<◌, ◌≤◌, ℤ, pos, List, [], ◌∷◌, ◌++◌, length, slice_get, get_or, unwrap_or, All, IsTrue, refl, sym, ap, subst, arith, length-append, le-leb}
 use Rattle.std.specs.List.{list_all}
 use Rattle.std.proofs.lemmas.Option.{slice_get-get_or}
 use Rattle.std.proofs.lemmas.List.Elements.{All-head, All-tail, All-cons, All-nil, All-append, All-push}
@@ -8,12 +7,11 @@ use Rattle.iv_words.specs.declared.IntKind.{IntKind}
 use Rattle.iv_words.specs.declared.IntKind.TheVariants.{U8, U16, U32, U64, I8, I16, I32, I64}
 use Rattle.iv_words.specs.Kinds.{in_range}
 use Rattle.index_types.specs.Indices.{is_index}
-use Rattle.type_trees.specs.Trees.{Leaf, Many, Struct, End, Field, repeated, scalars, scalars_row, count, count_row}
-use Rattle.type_trees.proofs.Scalars.{length_repeated, length_scalars, length_scalars_row}
+use Rattle.type_trees.specs.Trees.{Struct, End, repeated, scalars, scalars_row}
 use Rattle.area_types.specs.Syntax as types
 use Rattle.area_types.specs.Syntax.{ValueType, Area, StructType}
 use Rattle.area_types.specs.Tables.{Table, is_length, is_stored, is_made_of, is_field, has_index_length, has_index_lengths, fits_after, fit_after}
-use Rattle.area_types.specs.Trees.{Written, WrittenRow, tree_of, fields_from, fields_of, trees_from, trees_of}
+use Rattle.area_types.specs.Trees.{Written, tree_of, fields_from, fields_of, trees_from, trees_of}
 use Rattle.area_types.proofs.Truths.{both, is_below, is_at_most}
 use Rattle.area_types.proofs.Sound.{fitting}
 use Rattle.core_tree.specs.Types.{is_word, is_value}

@@ -5,7 +5,6 @@ use Rattle.ivory_tree.specs.Formed.{Formed}
 use Rattle.ivory_tree.specs.Nodes.{module_nodes, nodes_count}
 use Rattle.ivory_tree.specs.Names as text
 use Rattle.ivory_tree.specs.Depth as text_depth
-use Rattle.area_types.specs.Syntax.{Name}
 use Rattle.core_tree.specs.Syntax.{ModuleCore}
 use Rattle.core_tree.specs.Names.{module_names}
 use Rattle.core_tree.specs.Depth.{module_depth}

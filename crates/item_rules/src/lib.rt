@@ -4,7 +4,7 @@
 mod boundaries;
 mod cells;
 mod contracts;
-mod declare;
+mod declaring;
 mod fields;
 mod headers;
 mod items;
@@ -13,4 +13,6 @@ mod regions;
 mod rules;
 mod sizes;
 
-pub use module::first_fault;
+pub use declaring::declare;
+pub use module::{first_fault, names_in};
+pub use regions::regions_of;

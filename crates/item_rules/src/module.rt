@@ -11,7 +11,7 @@ ghost use Rattle.source_types.specs.Environments.{nothing_earlier};
 ghost use Rattle.source_types.specs.Items.{after, item_names};
 ghost use Rattle.item_rules.specs.Names.{names_of};
 
-use crate::declare::declare;
+use crate::declaring::declare;
 use crate::items::{item_fault, leave_item};
 use alloc_effects::Allowed;
 use iv_words::{Memory, Seq, Word};
@@ -32,7 +32,7 @@ fn add_name(alloc: Global, names: &mut Seq<Word>, item: &Item) -> Result<(), Mem
 }
 
 /// The names of all areas, imports and procedures.
-fn names_in(alloc: Global, items: &[Item]) -> Result<Seq<Word>, Memory>
+pub fn names_in(alloc: Global, items: &[Item]) -> Result<Seq<Word>, Memory>
     ensures { IfOk result (λ names. names ≡ item_names (map item_of items.now)) }
 {
     let mut names = Seq::new(alloc);

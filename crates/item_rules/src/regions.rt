@@ -35,7 +35,7 @@ fn add_region(alloc: Global, regions: &mut Seq<Word>, t: &TypeText) -> Result<()
 }
 
 /// Those of all parameters. Where there is no number for one, that is want of memory too.
-pub(crate) fn regions_of(alloc: Global, params: &[Param]) -> Result<Seq<Word>, Memory>
+pub fn regions_of(alloc: Global, params: &[Param]) -> Result<Seq<Word>, Memory>
     ensures found { IfOk result (λ regions. regions ≡ regions_of (map param_of params.now)) }
     ensures few { IfOk result (λ regions. length regions ≤ 4_294_967_296) }
 {

@@ -105,7 +105,7 @@ fn declare_callee(
 }
 
 /// Adds what an item declares.
-pub(crate) fn declare(alloc: Global, items: &mut Items, item: &Item) -> Result<(), Memory>
+pub fn declare(alloc: Global, items: &mut Items, item: &Item) -> Result<(), Memory>
     ensures { OnOk result (earlier_of items.new ≡ after (earlier_of items.old) (item_of item.now)) }
 {
     match item {

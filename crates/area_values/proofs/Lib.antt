@@ -1,0 +1,2 @@
+pub mod ZeroCells
+pub mod Rests

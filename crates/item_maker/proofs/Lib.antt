@@ -1,0 +1,3 @@
+pub mod FirstValues
+pub mod Entered
+pub mod Wishes

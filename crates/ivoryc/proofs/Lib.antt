@@ -1,4 +1,5 @@
 pub mod StepWords
+pub mod ModuleTexts
 pub mod Once
 pub mod Answered
 pub mod Steps

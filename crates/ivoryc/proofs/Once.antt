@@ -8,11 +8,17 @@ use Rattle.iv_script.specs.ScriptText.{script_limit, script_of}
 use Rattle.iv_script.specs.declared.ScriptFault.{ScriptFault}
 use Rattle.iv_script.proofs.Fitting.{fits_where_ok}
 use Rattle.iv_base.specs.Stores.{FileMap}
+use Rattle.iv_words.specs.declared.Span.{Span}
 use Rattle.ivory_tree.specs.View.{module_of}
+use Rattle.ivory_tree.specs.declared.Module.{Module}
 use Rattle.first_form.specs.declared.FirstModule.{FirstModule}
-use Rattle.first_form.specs.Stands.{Stands}
 use Rattle.module_text.specs.Verdicts.{Verdict, TooLong, Faulty, Reads, Judged}
 use Rattle.module_text.proofs.Verdicts.{judged_once}
+use Rattle.module_text.proofs.Trees.{of_text}
+use Rattle.rule_faults.specs.FirstFault.{FirstFault}
+use Rattle.rule_faults.proofs.Found.{unique_law}
+use Rattle.typing_rules.specs.WellTyped.{WellTyped}
+use Rattle.typing_laws.proofs.ExactlyOne.{exactly_one}
 use Rattle.c_ast.specs.declared.Target.TheVariants.{T32}
 use Rattle.c_ast.specs.Exports.{c_exports}
 use Rattle.c_ast.specs.Syntax.{TranslationUnit}
@@ -23,11 +29,14 @@ use Rattle.c_meaning.specs.Runs.{run_c}
 use Rattle.c_reader.specs.Answers.{text_limit}
 use Rattle.c_reader.proofs.Verdicts.{not_unit_and_fault, one_unit, one_fault}
 use Rattle.ivoryc.specs.declared.command.Command.{Command}
-use Rattle.ivoryc.specs.declared.command.Command.TheVariants.{Emit, CRun}
+use Rattle.ivoryc.specs.declared.command.Command.TheVariants.{Emit, Check, CRun}
+use Rattle.ivoryc.specs.declared.status.Status.{Status}
 use Rattle.ivoryc.specs.declared.status.Status.TheVariants as status
-use Rattle.ivoryc.specs.Texts.{too_large_line, not_built_line, c_fault_line, script_line}
+use Rattle.ivoryc.specs.Texts.{too_large_line, rule_fault_line, c_fault_line, script_line}
 use Rattle.ivoryc.specs.Calls.{StandsUnder}
-use Rattle.ivoryc.specs.Answers.{Answer, Compiles, Gives, Refuses, Standing, Given, Comes, compiled, too_long, at_fault, not_built, ran, c_too_long, script_too_long, c_at_fault, script_unread, script_unfit}
+use Rattle.ivoryc.specs.Modules.{IsWellTyped, IsNoModule, too_long, at_fault, broken}
+use Rattle.ivoryc.specs.Headline.{FirstForm, IsOfNoFirstForm}
+use Rattle.ivoryc.specs.Answers.{Answer, Compiles, Gives, Refuses, Standing, Given, Comes, compiled, no_unit, not_built, checked, unchecked, ran, c_too_long, script_too_long, c_at_fault, script_unread, script_unfit}
 
 -- under a name stands one text
 abbrev pub OneText : Standing → Type 0
@@ -35,45 +44,81 @@ OneText stands = (name s t : List ℕ) → stands name s → stands name t → s
 
 -- ---- a module text
 
--- what one that reads as this verdict comes to
+-- what one that reads as this verdict is refused with
 abbrev Says : List ℕ → Verdict → Answer → Type 0
 Says text TooLong a = a ≡ Refuses status.TooLarge too_large_line
 Says text (Faulty line) a = a ≡ Refuses status.Refused line
-Says text (Reads tree) a =
-    ((core : FirstModule) × Stands (module_of tree) core × (a ≡ Compiles text))
-    ⊎ (((core : FirstModule) → ¬ Stands (module_of tree) core) × (a ≡ Refuses status.NotBuilt not_built_line))
+Says text (Reads tree) a = (rule : ℕ) × (span : Span) × FirstFault (module_of tree) rule span × (a ≡ Refuses status.Refused (rule_fault_line text rule span))
 
 said_once : (text : List ℕ) (v : Verdict) (a b : Answer) → Says text v a → Says text v b → a ≡ b
 said_once text TooLong a b p q = p ∙ sym q
 said_once text (Faulty line) a b p q = p ∙ sym q
-said_once text (Reads tree) a b (inl (core, stands, is)) (inl (other, same, q)) = is ∙ sym q
-said_once text (Reads tree) a b (inl (core, stands, is)) (inr (none, q)) = absurd (none core stands)
-said_once text (Reads tree) a b (inr (none, is)) (inl (core, stands, q)) = absurd (none core stands)
-said_once text (Reads tree) a b (inr (none, is)) (inr (other, q)) = is ∙ sym q
+said_once text (Reads tree) a b (j, s, fault, is) (k, t, other, is2) =
+    let one = unique_law (module_of tree) j k s t fault other in
+    is ∙ ap (λ r. Refuses status.Refused (rule_fault_line text r s)) one.0 ∙ ap (λ r. Refuses status.Refused (rule_fault_line text k r)) one.1 ∙ sym is2
 
-record Emits (stands : Standing) (file : List ℕ) (a : Answer) : Type 0 where
-  text : List ℕ
-  stands_so : stands file text
+record IsRefused (text : List ℕ) (a : Answer) : Type 0 where
   verdict : Verdict
   judged : Judged text verdict
   says : Says text verdict a
 
-emits : (stands : Standing) (file : List ℕ) (a : Answer) → Comes stands (Emit file) a → Emits stands file a
-emits stands file a (compiled {text = text} {core = core} so form) =
-    record { text = text; stands_so = so; verdict = Reads form.tree; judged = form.read; says = inl (core, form.stands, refl) }
-emits stands file a (too_long {text = text} so long) = record { text = text; stands_so = so; verdict = TooLong; judged = long; says = refl }
-emits stands file a (at_fault {text = text} {line = line} so faulty) = record { text = text; stands_so = so; verdict = Faulty line; judged = faulty; says = refl }
-emits stands file a (not_built {text = text} so un) =
-    record { text = text; stands_so = so; verdict = Reads un.tree; judged = un.read; says = inr (un.none, refl) }
+is_refused : (text line : List ℕ) (s : Status) → IsNoModule text s line → IsRefused text (Refuses s line)
+is_refused text line s (too_long long) = record { verdict = TooLong; judged = long; says = refl }
+is_refused text line s (at_fault faulty) = record { verdict = Faulty line; judged = faulty; says = refl }
+is_refused text line s (broken {rule = rule} {span = span} b) = record { verdict = Reads b.tree; judged = b.read; says = (rule, span, b.fault, refl) }
 
-emits_once : (stands : Standing) → OneText stands → (file : List ℕ) (a b : Answer) → Emits stands file a → Emits stands file b → a ≡ b
-emits_once stands one file a b p q =
-    let text : q.text ≡ p.text = one file q.text p.text q.stands_so p.stands_so in
-    let Judges : List ℕ → Type 0 = λ t. Judged t q.verdict in
-    let verdict : p.verdict ≡ q.verdict = judged_once p.text p.verdict q.verdict p.judged (subst Judges text q.judged) in
-    let Told : List ℕ → Type 0 = λ t. Says t q.verdict b in
-    let Is : Verdict → Type 0 = λ v. Says p.text v b in
-    said_once p.text p.verdict a b p.says (subst Is (sym verdict) (subst Told text q.says))
+refused_once : (text : List ℕ) (a b : Answer) → IsRefused text a → IsRefused text b → a ≡ b
+refused_once text a b p q =
+    let verdict : p.verdict ≡ q.verdict = judged_once text p.verdict q.verdict p.judged q.judged in
+    let Is : Verdict → Type 0 = λ v. Says text v b in
+    said_once text p.verdict a b p.says (subst Is (sym verdict) q.says)
+
+-- two refusals of one text
+none_once : (text other line words : List ℕ) (s t : Status) → other ≡ text → IsNoModule text s line → IsNoModule other t words → Refuses s line ≡ Refuses t words
+none_once text other line words s t same p q =
+    let Is : List ℕ → Type 0 = λ x. IsNoModule x t words in
+    refused_once text (Refuses s line) (Refuses t words) (is_refused text line s p) (is_refused text words t (subst Is same q))
+
+-- a well typed module breaks no rule
+sound : {A : Type 0} (text : List ℕ) (tree : Module) (rule : ℕ) (span : Span) → Judged text (Reads tree) → WellTyped (module_of tree)
+    → FirstFault (module_of tree) rule span → A
+sound text tree rule span read typed fault =
+    absurd ((exactly_one (module_of tree) (of_text text tree read).formed).1 typed (record { rule = rule; span = span; fault = fault }))
+
+typed_or_none : {A : Type 0} (text other line : List ℕ) (s : Status) → other ≡ text → IsWellTyped text → IsNoModule other s line → A
+typed_or_none {A} text other line s same w none =
+    let Is : List ℕ → Type 0 = λ x. IsNoModule x s line in
+    go line s (subst Is same none)
+  where
+    go : (line : List ℕ) (s : Status) → IsNoModule text s line → A
+    go line s (too_long long) = let no : Reads w.tree ≡ TooLong = judged_once text (Reads w.tree) TooLong w.read long in let not : ⊥ = cc in absurd not
+    go line s (at_fault faulty) =
+        let no : Reads w.tree ≡ Faulty line = judged_once text (Reads w.tree) (Faulty line) w.read faulty in let not : ⊥ = cc in absurd not
+    go line s (broken {rule = rule} {span = span} b) =
+        let verdicts : Reads b.tree ≡ Reads w.tree = judged_once text (Reads b.tree) (Reads w.tree) b.read w.read in
+        let trees : b.tree ≡ w.tree = cc in
+        let Faults : Module → Type 0 = λ t. FirstFault (module_of t) rule span in
+        sound text w.tree rule span w.read w.typed (subst Faults trees b.fault)
+
+form_or_none : {A : Type 0} (text other : List ℕ) (core : FirstModule) → text ≡ other → FirstForm text core → IsOfNoFirstForm other → A
+form_or_none text other core same form none = let Is : List ℕ → Type 0 = λ t. FirstForm t core in absurd (none core (subst Is same form))
+
+emit_once : (stands : Standing) → OneText stands → (file : List ℕ) (a b : Answer) → Comes stands (Emit file) a → Comes stands (Emit file) b → a ≡ b
+emit_once stands one file a b (compiled {text = t} p form) (compiled {text = u} q other) = ap Compiles (one file t u p q)
+emit_once stands one file a b (compiled {text = t} {core = core} p form) (no_unit {text = u} q none not) = form_or_none t u core (one file t u p q) form none
+emit_once stands one file a b (compiled {text = t} {core = core} p form) (not_built {text = u} q un) = form_or_none t u core (one file t u p q) form un.none
+emit_once stands one file a b (no_unit {text = t} p none not) (compiled {text = u} {core = core} q form) = form_or_none u t core (one file u t q p) form none
+emit_once stands one file a b (no_unit {text = t} p none not) (no_unit {text = u} q none2 not2) = none_once t u _ _ _ _ (one file u t q p) not not2
+emit_once stands one file a b (no_unit {text = t} p none not) (not_built {text = u} q un) = typed_or_none u t _ _ (one file t u p q) un.typed not
+emit_once stands one file a b (not_built {text = t} p un) (compiled {text = u} {core = core} q form) = form_or_none u t core (one file u t q p) form un.none
+emit_once stands one file a b (not_built {text = t} p un) (no_unit {text = u} q none not) = typed_or_none t u _ _ (one file u t q p) un.typed not
+emit_once stands one file a b (not_built {text = t} p un) (not_built {text = u} q un2) = refl
+
+check_once : (stands : Standing) → OneText stands → (file : List ℕ) (a b : Answer) → Comes stands (Check file) a → Comes stands (Check file) b → a ≡ b
+check_once stands one file a b (checked {text = t} p typed) (checked {text = u} q typed2) = refl
+check_once stands one file a b (checked {text = t} p typed) (unchecked {text = u} q not) = typed_or_none t u _ _ (one file u t q p) typed not
+check_once stands one file a b (unchecked {text = t} p not) (checked {text = u} q typed) = typed_or_none u t _ _ (one file t u p q) typed not
+check_once stands one file a b (unchecked {text = t} p not) (unchecked {text = u} q not2) = none_once t u _ _ _ _ (one file u t q p) not not2
 
 -- ---- a run of C
 
@@ -172,7 +217,8 @@ runs_once stands one file script n a b (reads {text = text} {said = said} u p ba
     e ∙ same_run text other said others u v n (one file other text q.text_stands p.text_stands) (one script others said q.script_stands p.script_stands) back back2 ∙ sym f
 
 comes_once : (stands : Standing) → OneText stands → (asked : Command) (a b : Answer) → Comes stands asked a → Comes stands asked b → a ≡ b
-comes_once stands one (Emit file) a b p q = emits_once stands one file a b (emits stands file a p) (emits stands file b q)
+comes_once stands one (Emit file) a b p q = emit_once stands one file a b p q
+comes_once stands one (Check file) a b p q = check_once stands one file a b p q
 comes_once stands one (CRun file script n) a b p q = runs_once stands one file script n a b (runs stands file script n a p) (runs stands file script n b q)
 
 -- what a store tells under a name is one text

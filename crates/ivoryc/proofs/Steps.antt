@@ -14,9 +14,13 @@ use Rattle.c_text.specs.Spelling.{unit_text}
 use Rattle.c_text.specs.ReadsBack.{ReadsBack}
 use Rattle.c_grammar.proofs.Texts.{texts_apart}
 use Rattle.ivory_lexer.specs.Limits.{source_limit}
-use Rattle.module_text.specs.Verdicts.{Judged}
+use Rattle.module_text.specs.Answers.{Refuses}
+use Rattle.module_text.specs.Lines.{fault_line}
+use Rattle.module_text.specs.Verdicts.{Judged, TooLong}
+use Rattle.module_text.specs.declared.TextFault.{TextFault}
+use Rattle.module_text.specs.declared.TextFault.TheVariants as text_fault
 use Rattle.ivoryc.specs.declared.command.Command.{Command}
-use Rattle.ivoryc.specs.declared.command.Command.TheVariants.{Emit, CRun}
+use Rattle.ivoryc.specs.declared.command.Command.TheVariants.{Emit, Check, CRun}
 use Rattle.ivoryc.specs.declared.c_fault.CTextFault.{CTextFault}
 use Rattle.ivoryc.specs.declared.input_fault.InputFault.{InputFault}
 use Rattle.ivoryc.specs.declared.input_fault.InputFault.TheVariants as input
@@ -25,14 +29,60 @@ use Rattle.ivoryc.specs.declared.refusal.Refusal.TheVariants as refusal
 use Rattle.ivoryc.specs.declared.status.Status.{Status}
 use Rattle.ivoryc.specs.declared.status.Status.TheVariants as status
 use Rattle.ivoryc.specs.Commands.{command}
-use Rattle.ivoryc.specs.Texts.{usage_line, read_fault_line}
-use Rattle.ivoryc.specs.Causes.{status_of, line_of, answer_of}
+use Rattle.ivoryc.specs.Texts.{ok_line, usage_line, read_fault_line}
+use Rattle.ivoryc.specs.Causes.{refusal_of_text, status_of, line_of, answer_of}
 use Rattle.ivoryc.specs.Calls.{StoreSeen, SinkSeen, Change, Call, Unchanged, Took, FailedAt, StandsUnder}
-use Rattle.ivoryc.specs.Headline.{IsCompiled}
-use Rattle.ivoryc.specs.Answers.{Compiles, Gives, Given, Comes, compiled, too_long, at_fault, not_built, ran, c_too_long, script_too_long, c_at_fault, script_unread, script_unfit}
+use Rattle.ivoryc.specs.Modules.{IsWellTyped, IsNoModule}
+use Rattle.ivoryc.specs.Headline.{IsOfNoFirstForm, IsCompiled}
+use Rattle.ivoryc.specs.Answers as comes
+use Rattle.ivoryc.specs.Answers.{Answer, Compiles, Gives, Allows, Given, Comes, compiled, no_unit, not_built, checked, unchecked, ran, c_too_long, script_too_long, c_at_fault, script_unread, script_unfit}
 use Rattle.ivoryc.specs.Promise.{ComesTo, IsCommand, Writes, Due, IsAnswered, Promise}
-use Rattle.ivoryc.specs.Steps.{LoadsAtMost, IsWhole, IsTooLong, Loaded, LoadsFor, LoadsBoth, AreWhole, IsScriptTooLong, BothLoaded, IsUnitOf, Made, IsCFault, IsScriptFault, unread, unfit, ScriptFor, IsRun, RanC, Written, Wrote, Performed, Ran, Tells, Reported}
+use Rattle.ivoryc.specs.Steps.{LoadsAtMost, IsWhole, IsTooLong, Loaded, LoadsFor, LoadsBoth, AreWhole, IsScriptTooLong, BothLoaded, Checked, IsUnitOf, NoUnit, IsCFault, IsScriptFault, unread, unfit, ScriptFor, IsRun, RanC, Written, Wrote, Performed, Ran, Tells, Reported}
+use Rattle.ivoryc.proofs.ModuleTexts.{no_form_where_long, no_form_where_too_long, no_form_where_faulty}
 use Rattle.ivoryc.proofs.Answered.{LoadsWell, promise_from}
+
+-- ---- what commands do alike
+
+-- where the one file of a command, or its first, could not be loaded
+unloaded : (asked : Command) (file : List ℕ) (most : ℕ) (store : Change StoreSeen) (out : Change SinkSeen) (r : Refusal)
+    → (IsTooLong file most store → Comes (StandsUnder store.before.holds) asked (answer_of input.TooLarge)) → Loaded file most store (Err r) → Unchanged out
+    → Performed asked store out (Err r)
+unloaded asked file most store out refusal.Words long loaded same = absurd loaded
+unloaded asked file most store out refusal.ReadFault long loaded same = (loaded, same)
+unloaded asked file most store out refusal.WriteFault long loaded same = absurd loaded
+unloaded asked file most store out refusal.Memory long loaded same = same
+unloaded asked file most store out (refusal.Input input.TooLarge) long loaded same = (long loaded, same)
+unloaded asked file most store out (refusal.Input (input.Module f)) long loaded same = absurd loaded
+unloaded asked file most store out (refusal.Input (input.Rule b)) long loaded same = absurd loaded
+unloaded asked file most store out (refusal.Input input.NotBuilt) long loaded same = absurd loaded
+unloaded asked file most store out (refusal.Input (input.CText f)) long loaded same = absurd loaded
+unloaded asked file most store out (refusal.Input (input.Script f)) long loaded same = absurd loaded
+
+-- where the text is that of no module
+refused : (asked : Command) (text : List ℕ) (store : Change StoreSeen) (out : Change SinkSeen) (r : Refusal)
+    → ((s : Status) (line : List ℕ) → IsNoModule text s line → Comes (StandsUnder store.before.holds) asked (comes.Refuses s line)) → Checked text (Err r) → Unchanged out
+    → Performed asked store out (Err r)
+refused asked text store out refusal.Words so none same = absurd none
+refused asked text store out refusal.ReadFault so none same = absurd none
+refused asked text store out refusal.WriteFault so none same = absurd none
+refused asked text store out refusal.Memory so none same = same
+refused asked text store out (refusal.Input f) so none same = (so (status_of f) (line_of f) none, same)
+
+-- a text that is not read is that of no module
+pub unread_is_none : (text : List ℕ) (f : TextFault) → Refuses text f → Checked text (Err (refusal_of_text f))
+unread_is_none text text_fault.TooLarge long = IsNoModule.too_long long
+unread_is_none text (text_fault.At f) faulty = IsNoModule.at_fault faulty
+unread_is_none text text_fault.Memory none = tt
+
+-- where bytes are written that the command is to write
+written : (asked : Command) (store : Change StoreSeen) (out : Change SinkSeen) (a : Answer) (bytes : List ℕ) (r : Result (Unit {0}) Refusal)
+    → Comes (StandsUnder store.before.holds) asked a → Allows a bytes → Written bytes out r → Performed asked store out r
+written asked store out a bytes (Ok done) comes allowed took = record { answer = a; comes = comes; bytes = bytes; allowed = allowed; done = took }
+written asked store out a bytes (Err refusal.Words) comes allowed none = absurd none
+written asked store out a bytes (Err refusal.ReadFault) comes allowed none = absurd none
+written asked store out a bytes (Err refusal.WriteFault) comes allowed failed = record { answer = a; comes = comes; bytes = bytes; allowed = allowed; done = failed }
+written asked store out a bytes (Err refusal.Memory) comes allowed same = same
+written asked store out a bytes (Err (refusal.Input f)) comes allowed none = absurd none
 
 -- ---- `emit`
 
@@ -50,61 +100,85 @@ is_compiled text u is =
       only = λ v spells. texts_apart v (unit_of u) (unit_text (unit_of u)) spells (record { in_subset = is.compiled.reads_back.spelled.in_subset; is = refl });
     }
 
--- what was made of a text that stands under the name tells what the command comes to
-emits_so : (file text : List ℕ) (store : Change StoreSeen) (f : InputFault) → StandsUnder store.before.holds file text → Made text (Err (refusal.Input f))
-    → Comes (StandsUnder store.before.holds) (Emit file) (answer_of f)
-emits_so file text store input.TooLarge stands made = too_long stands made
-emits_so file text store (input.Module f) stands made = at_fault stands made
-emits_so file text store input.NotBuilt stands made = not_built stands made
-emits_so file text store (input.CText f) stands made = absurd made
-emits_so file text store (input.Script f) stands made = absurd made
-
 pub emit_unloaded : (file : List ℕ) (store : Change StoreSeen) (out : Change SinkSeen) (r : Refusal) → Loaded file source_limit store (Err r) → Unchanged out
     → Performed (Emit file) store out (Err r)
-emit_unloaded file store out refusal.Words loaded same = absurd loaded
-emit_unloaded file store out refusal.ReadFault loaded same = (loaded, same)
-emit_unloaded file store out refusal.WriteFault loaded same = absurd loaded
-emit_unloaded file store out refusal.Memory loaded same = same
-emit_unloaded file store out (refusal.Input input.TooLarge) loaded same = (too_long loaded.stands (Judged.too_long loaded.long), same)
-emit_unloaded file store out (refusal.Input (input.Module f)) loaded same = absurd loaded
-emit_unloaded file store out (refusal.Input input.NotBuilt) loaded same = absurd loaded
-emit_unloaded file store out (refusal.Input (input.CText f)) loaded same = absurd loaded
-emit_unloaded file store out (refusal.Input (input.Script f)) loaded same = absurd loaded
+emit_unloaded file store out r loaded same =
+    unloaded (Emit file) file source_limit store out r (λ long. no_unit long.stands (no_form_where_long long.text long.long) (IsNoModule.too_long (Judged.too_long long.long)))
+    loaded same
+
+pub unread_is_no_unit : (text : List ℕ) (f : TextFault) → Refuses text f → NoUnit text (refusal_of_text f)
+unread_is_no_unit text text_fault.TooLarge long = (no_form_where_too_long text long, IsNoModule.too_long long)
+unread_is_no_unit text (text_fault.At f) faulty = (no_form_where_faulty text (fault_line f) faulty, IsNoModule.at_fault faulty)
+unread_is_no_unit text text_fault.Memory none = tt
+
+-- no text is that of no module for want of a form
+never_unbuilt : {A : Type 0} (text line : List ℕ) (s : Status) → s ≡ status.NotBuilt → IsNoModule text s line → A
+never_unbuilt text line s is (IsNoModule.too_long long) = let no : ⊥ = cc in absurd no
+never_unbuilt text line s is (IsNoModule.at_fault faulty) = let no : ⊥ = cc in absurd no
+never_unbuilt text line s is (IsNoModule.broken b) = let no : ⊥ = cc in absurd no
+
+pub no_unit_where_none : (text : List ℕ) (r : Refusal) → IsOfNoFirstForm text → Checked text (Err r) → NoUnit text r
+no_unit_where_none text refusal.Words none not = not
+no_unit_where_none text refusal.ReadFault none not = not
+no_unit_where_none text refusal.WriteFault none not = not
+no_unit_where_none text refusal.Memory none not = not
+no_unit_where_none text (refusal.Input input.TooLarge) none not = (none, not)
+no_unit_where_none text (refusal.Input (input.Module f)) none not = (none, not)
+no_unit_where_none text (refusal.Input (input.Rule b)) none not = (none, not)
+no_unit_where_none text (refusal.Input input.NotBuilt) none not = never_unbuilt text _ _ refl not
+no_unit_where_none text (refusal.Input (input.CText f)) none not = (none, not)
+no_unit_where_none text (refusal.Input (input.Script f)) none not = (none, not)
+
+-- why there is no unit of a text that stands under the name tells what the command comes to
+emits_so : (file text : List ℕ) (store : Change StoreSeen) (f : InputFault) → StandsUnder store.before.holds file text → NoUnit text (refusal.Input f)
+    → Comes (StandsUnder store.before.holds) (Emit file) (answer_of f)
+emits_so file text store input.TooLarge stands made = no_unit stands made.0 made.1
+emits_so file text store (input.Module f) stands made = no_unit stands made.0 made.1
+emits_so file text store (input.Rule b) stands made = no_unit stands made.0 made.1
+emits_so file text store input.NotBuilt stands made = not_built stands made
+emits_so file text store (input.CText f) stands made = no_unit stands made.0 made.1
+emits_so file text store (input.Script f) stands made = no_unit stands made.0 made.1
 
 pub emit_unmade : (file text seen : List ℕ) (store : Change StoreSeen) (out : Change SinkSeen) (r : Refusal) → IsWhole file source_limit store text
-    → seen ≡ text → Made seen (Err r) → Unchanged out → Performed (Emit file) store out (Err r)
+    → seen ≡ text → NoUnit seen r → Unchanged out → Performed (Emit file) store out (Err r)
 emit_unmade file text seen store out refusal.Words whole is made same = absurd made
 emit_unmade file text seen store out refusal.ReadFault whole is made same = absurd made
 emit_unmade file text seen store out refusal.WriteFault whole is made same = absurd made
 emit_unmade file text seen store out refusal.Memory whole is made same = same
 emit_unmade file text seen store out (refusal.Input f) whole is made same =
-    let Says : List ℕ → Type 0 = λ t. Made t (Err (refusal.Input f)) in
+    let Says : List ℕ → Type 0 = λ t. NoUnit t (refusal.Input f) in
     (emits_so file text store f whole.stands (subst Says is made), same)
-
-has_text : (file text seen : List ℕ) (store : Change StoreSeen) (Done : List ℕ → Type 0) (u : CUnit) → IsWhole file source_limit store text → seen ≡ text
-    → IsUnitOf seen u → Done (unit_text (unit_of u)) → Wrote (Emit file) store Done
-has_text file text seen store Done u whole same is done =
-    let Says : List ℕ → Type 0 = λ t. IsUnitOf t u in
-    let unit : IsUnitOf text u = subst Says same is in
-    record {
-      answer = Compiles text;
-      comes = compiled whole.stands unit.form;
-      bytes = unit_text (unit_of u);
-      allowed = is_compiled text u unit;
-      done = done;
-    }
 
 pub emit_written : (file text seen : List ℕ) (store : Change StoreSeen) (out : Change SinkSeen) (u : CUnit) (r : Result (Unit {0}) Refusal)
     → IsWhole file source_limit store text → seen ≡ text → IsUnitOf seen u → Written (unit_text (unit_of u)) out r → Performed (Emit file) store out r
-emit_written file text seen store out u (Ok done) whole same is written = has_text file text seen store (Took out) u whole same is written
-emit_written file text seen store out u (Err refusal.Words) whole same is written = absurd written
-emit_written file text seen store out u (Err refusal.ReadFault) whole same is written = absurd written
-emit_written file text seen store out u (Err refusal.WriteFault) whole same is written = has_text file text seen store (FailedAt out) u whole same is written
-emit_written file text seen store out u (Err refusal.Memory) whole same is written = written
-emit_written file text seen store out u (Err (refusal.Input f)) whole same is written = absurd written
+emit_written file text seen store out u r whole same is done =
+    let Says : List ℕ → Type 0 = λ t. IsUnitOf t u in
+    let unit : IsUnitOf text u = subst Says same is in
+    written (Emit file) store out (Compiles text) (unit_text (unit_of u)) r (compiled whole.stands unit.form) (is_compiled text u unit) done
 
 pub emit_loads : (file : List ℕ) (store : Change StoreSeen) → LoadsAtMost 1 store → LoadsFor (Emit file) store
 emit_loads file store most = record { most = most; due = λ files told. most.loads }
+
+-- ---- `check`
+
+pub check_unloaded : (file : List ℕ) (store : Change StoreSeen) (out : Change SinkSeen) (r : Refusal) → Loaded file source_limit store (Err r) → Unchanged out
+    → Performed (Check file) store out (Err r)
+check_unloaded file store out r loaded same =
+    unloaded (Check file) file source_limit store out r (λ long. unchecked long.stands (IsNoModule.too_long (Judged.too_long long.long))) loaded same
+
+pub check_refused : (file text seen : List ℕ) (store : Change StoreSeen) (out : Change SinkSeen) (r : Refusal) → IsWhole file source_limit store text
+    → seen ≡ text → Checked seen (Err r) → Unchanged out → Performed (Check file) store out (Err r)
+check_refused file text seen store out r whole is none same =
+    let Says : List ℕ → Type 0 = λ t. Checked t (Err r) in
+    refused (Check file) text store out r (λ s line not. unchecked whole.stands not) (subst Says is none) same
+
+pub check_written : (file text seen : List ℕ) (store : Change StoreSeen) (out : Change SinkSeen) (r : Result (Unit {0}) Refusal)
+    → IsWhole file source_limit store text → seen ≡ text → IsWellTyped seen → Written ok_line out r → Performed (Check file) store out r
+check_written file text seen store out r whole same typed done =
+    written (Check file) store out (Gives ok_line) ok_line r (checked whole.stands (subst IsWellTyped same typed)) refl done
+
+pub check_loads : (file : List ℕ) (store : Change StoreSeen) → LoadsAtMost 1 store → LoadsFor (Check file) store
+check_loads file store most = record { most = most; due = λ files told. most.loads }
 
 -- ---- `crun`
 
@@ -145,6 +219,7 @@ script_refused text said n out u refusal.WriteFault back is same = absurd is
 script_refused text said n out u refusal.Memory back is same = same
 script_refused text said n out u (refusal.Input input.TooLarge) back is same = absurd is
 script_refused text said n out u (refusal.Input (input.Module f)) back is same = absurd is
+script_refused text said n out u (refusal.Input (input.Rule b)) back is same = absurd is
 script_refused text said n out u (refusal.Input input.NotBuilt) back is same = absurd is
 script_refused text said n out u (refusal.Input (input.CText f)) back is same = absurd is
 script_refused text said n out u (refusal.Input (input.Script f)) back is same = (record { unit = u; back = back; is = is }, same)
@@ -158,6 +233,7 @@ texts_ran file script text said n store out (Err refusal.WriteFault) whole run =
 texts_ran file script text said n store out (Err refusal.Memory) whole run = run
 texts_ran file script text said n store out (Err (refusal.Input input.TooLarge)) whole run = absurd run
 texts_ran file script text said n store out (Err (refusal.Input (input.Module f))) whole run = absurd run
+texts_ran file script text said n store out (Err (refusal.Input (input.Rule b))) whole run = absurd run
 texts_ran file script text said n store out (Err (refusal.Input input.NotBuilt)) whole run = absurd run
 texts_ran file script text said n store out (Err (refusal.Input (input.CText f))) whole run = (c_faulty file script text said n store f whole run.0, run.1)
 texts_ran file script text said n store out (Err (refusal.Input (input.Script f))) whole run =
@@ -183,6 +259,7 @@ crun_unloaded file script n store out refusal.WriteFault loaded same = absurd lo
 crun_unloaded file script n store out refusal.Memory loaded same = same
 crun_unloaded file script n store out (refusal.Input input.TooLarge) loaded same = (too_long_so file script n store loaded, same)
 crun_unloaded file script n store out (refusal.Input (input.Module f)) loaded same = absurd loaded
+crun_unloaded file script n store out (refusal.Input (input.Rule b)) loaded same = absurd loaded
 crun_unloaded file script n store out (refusal.Input input.NotBuilt) loaded same = absurd loaded
 crun_unloaded file script n store out (refusal.Input (input.CText f)) loaded same = absurd loaded
 crun_unloaded file script n store out (refusal.Input (input.Script f)) loaded same = absurd loaded
@@ -228,6 +305,7 @@ memory_answered c out (is, err) = answered c status.Memory is (record { out = ou
 input_where : (c : Call) (f : InputFault) → ComesTo c (answer_of f) → Unchanged c.out → Took c.err (line_of f) → IsAnswered c (status_of f)
 input_where c input.TooLarge p out err = record { line = _; comes_to = p; out = out; err = err }
 input_where c (input.Module f) p out err = record { line = _; comes_to = p; out = out; err = err }
+input_where c (input.Rule b) p out err = record { line = _; comes_to = p; out = out; err = err }
 input_where c input.NotBuilt p out err = record { line = _; comes_to = p; out = out; err = err }
 input_where c (input.CText f) p out err = record { line = _; comes_to = p; out = out; err = err }
 input_where c (input.Script f) p out err = record { line = _; comes_to = p; out = out; err = err }

@@ -7,7 +7,6 @@ use Rattle.iv_script.specs.Report.{report}
 use Rattle.iv_script.specs.ScriptText.{script_limit, script_of}
 use Rattle.iv_script.specs.declared.ScriptFault.{ScriptFault}
 use Rattle.first_form.specs.declared.FirstModule.{FirstModule}
-use Rattle.module_text.specs.Verdicts.{TooLong, Faulty, Judged}
 use Rattle.c_ast.specs.declared.Target.TheVariants.{T32}
 use Rattle.c_ast.specs.Exports.{c_exports}
 use Rattle.c_ast.specs.Syntax.{TranslationUnit}
@@ -17,11 +16,12 @@ use Rattle.c_text.specs.declared.CFault.{CFault}
 use Rattle.c_meaning.specs.Runs.{run_c}
 use Rattle.c_reader.specs.Answers.{text_limit}
 use Rattle.ivoryc.specs.declared.command.Command.{Command}
-use Rattle.ivoryc.specs.declared.command.Command.TheVariants.{Emit, CRun}
+use Rattle.ivoryc.specs.declared.command.Command.TheVariants.{Emit, Check, CRun}
 use Rattle.ivoryc.specs.declared.status.Status.{Status}
 use Rattle.ivoryc.specs.declared.status.Status.TheVariants as status
-use Rattle.ivoryc.specs.Texts.{too_large_line, not_built_line, c_fault_line, script_line}
-use Rattle.ivoryc.specs.Headline.{FirstForm, IsUnbuilt, IsCompiled}
+use Rattle.ivoryc.specs.Texts.{ok_line, too_large_line, not_built_line, c_fault_line, script_line}
+use Rattle.ivoryc.specs.Modules.{IsWellTyped, IsNoModule}
+use Rattle.ivoryc.specs.Headline.{FirstForm, IsOfNoFirstForm, IsUnbuilt, IsCompiled}
 
 pub data Answer : Type 0 where
   -- the C text of this module text
@@ -56,9 +56,11 @@ pub record Given (stands : Standing) (file script text said : List ℕ) : Type 0
 pub data Comes (stands : Standing) : Command → Answer → Type 0 where
   -- `emit`
   compiled : {file text : List ℕ} {core : FirstModule} → stands file text → FirstForm text core → Comes stands (Emit file) (Compiles text)
-  too_long : {file text : List ℕ} → stands file text → Judged text TooLong → Comes stands (Emit file) (Refuses status.TooLarge too_large_line)
-  at_fault : {file text line : List ℕ} → stands file text → Judged text (Faulty line) → Comes stands (Emit file) (Refuses status.Refused line)
+  no_unit : {file text line : List ℕ} {s : Status} → stands file text → IsOfNoFirstForm text → IsNoModule text s line → Comes stands (Emit file) (Refuses s line)
   not_built : {file text : List ℕ} → stands file text → IsUnbuilt text → Comes stands (Emit file) (Refuses status.NotBuilt not_built_line)
+  -- `check`
+  checked : {file text : List ℕ} → stands file text → IsWellTyped text → Comes stands (Check file) (Gives ok_line)
+  unchecked : {file text line : List ℕ} {s : Status} → stands file text → IsNoModule text s line → Comes stands (Check file) (Refuses s line)
   -- `crun`: the texts' lengths come first, then the C text, then the script by itself, then whether it fits
   ran : {file script text said : List ℕ} {n : ℕ} {u : TranslationUnit} {s : Script} → Given stands file script text said → ReadsBack u text T32
       → script_of said ≡ Ok s → Fits s (c_exports u) → Comes stands (CRun file script n) (Gives (report (run_c u T32 s n)))

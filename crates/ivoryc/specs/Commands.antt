@@ -3,7 +3,7 @@ use Rattle.std.specs.Prelude.{ℕ, Bool, true, false, ◌&&◌, nat_le, if◌the
 use Rattle.iv_base.specs.Numbers.{are_digits, value}
 use Rattle.iv_words.specs.Words.{same_word}
 use Rattle.ivoryc.specs.declared.command.Command.{Command}
-use Rattle.ivoryc.specs.declared.command.Command.TheVariants.{Emit, CRun}
+use Rattle.ivoryc.specs.declared.command.Command.TheVariants.{Emit, Check, CRun}
 
 -- a word that stands for a file has at least one byte
 abbrev pub names_file : List ℕ → Bool
@@ -25,9 +25,12 @@ few_steps n = if nat_le n most_steps then Some n else None
 abbrev pub steps_of : List ℕ → Option ℕ
 steps_of word = if is_short_number word then few_steps (value word) else None
 
--- `emit FILE`
+-- `emit FILE` and `check FILE`
+abbrev pub command_on : (name file : List ℕ) → Option Command
+command_on name file = if same_word name (codes "emit") then Some (Emit file) else if same_word name (codes "check") then Some (Check file) else None
+
 abbrev pub file_command : (name file : List ℕ) → Option Command
-file_command name file = if names_file file && same_word name (codes "emit") then Some (Emit file) else None
+file_command name file = if names_file file then command_on name file else None
 
 -- `crun CFILE SCRIPT N`
 abbrev pub run_command : (name file script : List ℕ) → Option ℕ → Option Command

@@ -2,6 +2,7 @@ pub mod Commands
 pub mod Texts
 pub mod Statuses
 pub mod Calls
+pub mod Modules
 pub mod Headline
 pub mod Answers
 pub mod Causes

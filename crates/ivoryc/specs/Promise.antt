@@ -3,7 +3,7 @@ use Rattle.std.specs.Prelude.{◌≡◌, ℕ, ◌+◌, ◌≤◌, ◌⊎◌, nat
 use Rattle.iv_base.specs.Stores.{FileMap, text_of}
 use Rattle.c_reader.specs.Answers.{text_limit}
 use Rattle.ivoryc.specs.declared.command.Command.{Command}
-use Rattle.ivoryc.specs.declared.command.Command.TheVariants.{Emit, CRun}
+use Rattle.ivoryc.specs.declared.command.Command.TheVariants.{Emit, Check, CRun}
 use Rattle.ivoryc.specs.declared.status.Status.{Status}
 use Rattle.ivoryc.specs.declared.status.Status.TheVariants as status
 use Rattle.ivoryc.specs.Commands.{command}
@@ -111,12 +111,14 @@ output_for c (Refuses s line) = c.err
 abbrev pub files_named : Option Command → ℕ
 files_named None = 0
 files_named (Some (Emit file)) = 1
+files_named (Some (Check file)) = 1
 files_named (Some (CRun file script n)) = 2
 
 -- how many of them must be loaded before the first refusal: no second file where the first is too long
 abbrev pub files_due : FileMap → Option Command → ℕ
 files_due files None = 0
 files_due files (Some (Emit file)) = 1
+files_due files (Some (Check file)) = 1
 files_due files (Some (CRun file script n)) = if nat_lt text_limit (length (text_of (files file))) then 1 else 2
 
 -- each status comes with its cause; but for a failure of what it needs, and for want of memory, each cause comes with its status

@@ -20,8 +20,6 @@ use Rattle.c_text.specs.declared.CFault.{CFault}
 use Rattle.c_meaning.specs.Runs.{run_c}
 use Rattle.c_reader.specs.Answers.{text_limit}
 use Rattle.c_lower.specs.Compiled.{Compiled}
-use Rattle.module_text.specs.Lines.{fault_line}
-use Rattle.module_text.specs.Verdicts.{TooLong, Faulty, Judged}
 use Rattle.ivoryc.specs.declared.command.Command.{Command}
 use Rattle.ivoryc.specs.declared.c_fault.CTextFault.{CTextFault}
 use Rattle.ivoryc.specs.declared.input_fault.InputFault.TheVariants as input
@@ -33,7 +31,8 @@ use Rattle.ivoryc.specs.Commands.{command}
 use Rattle.ivoryc.specs.Texts.{usage_line, read_fault_line, memory_line}
 use Rattle.ivoryc.specs.Causes.{placed, status_of, line_of, answer_of}
 use Rattle.ivoryc.specs.Calls.{StoreSeen, SinkSeen, Change, Unchanged, Unread, Took, FailedAt, StandsUnder}
-use Rattle.ivoryc.specs.Headline.{FirstForm, IsUnbuilt}
+use Rattle.ivoryc.specs.Modules.{IsWellTyped, IsNoModule}
+use Rattle.ivoryc.specs.Headline.{FirstForm, IsOfNoFirstForm, IsUnbuilt}
 use Rattle.ivoryc.specs.Answers.{Answer, Allows, Comes}
 use Rattle.ivoryc.specs.Promise.{files_named, files_due}
 
@@ -92,6 +91,15 @@ BothLoaded file script store (Err refusal.Memory) = Unit {0}
 BothLoaded file script store (Err (refusal.Input input.TooLarge)) = IsTooLong file text_limit store ⊎ IsScriptTooLong file script store
 BothLoaded file script store (Err _) = ⊥
 
+-- ---- module texts
+
+-- that of a well typed module, or why it is that of none
+abbrev pub Checked : List ℕ → Result (Unit {0}) Refusal → Type 0
+Checked text (Ok done) = IsWellTyped text
+Checked text (Err refusal.Memory) = Unit {0}
+Checked text (Err (refusal.Input f)) = IsNoModule text (status_of f) (line_of f)
+Checked text (Err _) = ⊥
+
 -- ---- compilation
 
 -- a unit for the module that the text stands for
@@ -100,13 +108,16 @@ pub record IsUnitOf (text : List ℕ) (u : CUnit) : Type 0 where
   pub form : FirstForm text core
   pub compiled : Compiled core (unit_of u) T32
 
+-- why there is none
+abbrev pub NoUnit : List ℕ → Refusal → Type 0
+NoUnit text refusal.Memory = Unit {0}
+NoUnit text (refusal.Input input.NotBuilt) = IsUnbuilt text
+NoUnit text (refusal.Input f) = IsOfNoFirstForm text × IsNoModule text (status_of f) (line_of f)
+NoUnit text _ = ⊥
+
 abbrev pub Made : List ℕ → Result CUnit Refusal → Type 0
 Made text (Ok u) = IsUnitOf text u
-Made text (Err (refusal.Input input.TooLarge)) = Judged text TooLong
-Made text (Err (refusal.Input (input.Module f))) = Judged text (Faulty (fault_line f))
-Made text (Err (refusal.Input input.NotBuilt)) = IsUnbuilt text
-Made text (Err refusal.Memory) = Unit {0}
-Made text (Err _) = ⊥
+Made text (Err why) = NoUnit text why
 
 -- ---- runs of C
 

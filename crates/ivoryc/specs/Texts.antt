@@ -5,7 +5,9 @@ use Rattle.iv_script.specs.declared.ScriptFault.{ScriptFault}
 use Rattle.iv_script.specs.declared.ScriptWhy.{ScriptWhy}
 use Rattle.iv_script.specs.declared.ScriptWhy.TheVariants.{BadWord, BadNumber, NoSuchName, BadCount, OutOfRange}
 use Rattle.iv_words.specs.Lines as places
+use Rattle.iv_words.specs.declared.Span.{Span}
 use Rattle.c_text.specs.declared.CFault.{CFault}
+use Rattle.ivoryc.specs.declared.broken_rule.Place.{Place}
 use Rattle.c_text.specs.declared.CWhy.{CWhy}
 use Rattle.c_text.specs.declared.CWhy.TheVariants.{Syntax, TooDeep, BadName, BadType}
 
@@ -26,6 +28,28 @@ memory_line = line (codes "no memory")
 
 abbrev pub not_built_line : List ℕ
 not_built_line = line (codes "not built yet")
+
+-- ---- module texts
+
+-- what is written where a module is well typed
+abbrev pub ok_line : List ℕ
+ok_line = line (codes "ok")
+
+-- a place of a text, which is a number of bytes from its start, by its line and column
+abbrev pub place_in : List ℕ → ℕ → Place
+place_in text at = record { line = places.line text at; column = places.column text at }
+
+-- `LINE:COLUMN`
+abbrev pub place_text : Place → List ℕ
+place_text p = signed_decimal (pos p.line) ++ (codes ":" ++ signed_decimal (pos p.column))
+
+-- `LINE:COLUMN-LINE:COLUMN: rule K`
+abbrev pub rule_line : (start end : Place) (rule : ℕ) → List ℕ
+rule_line start end rule = place_text start ++ (codes "-" ++ (place_text end ++ (codes ": rule " ++ line (signed_decimal (pos rule)))))
+
+-- of a rule that is broken between two places of a text
+abbrev pub rule_fault_line : List ℕ → ℕ → Span → List ℕ
+rule_fault_line text rule span = rule_line (place_in text span.start) (place_in text span.end) rule
 
 -- ---- C texts
 

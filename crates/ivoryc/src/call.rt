@@ -2,6 +2,7 @@ ghost use Rattle.ivoryc.specs.Calls.{change_of, store_seen, sink_seen};
 ghost use Rattle.ivoryc.specs.Promise.{Promise};
 ghost use Rattle.ivoryc.specs.Steps.{LoadsFor, Performed, Ran};
 
+use crate::check::check;
 use crate::command::{Command, words_of};
 use crate::crun::crun;
 use crate::emit::emit;
@@ -63,6 +64,7 @@ fn perform<S: Store, K: Sink>(
 {
     match command {
         Command::Emit(file) => emit(alloc, file, store, out),
+        Command::Check(file) => check(alloc, file, store, out),
         Command::CRun(file, script, steps) => crun(alloc, file, script, *steps, store, out),
     }
 }

@@ -13,6 +13,8 @@ const MOST_STEPS: u64 = 100_000_000;
 pub enum Command {
     /// Write the C text of the module in this file.
     Emit(Word),
+    /// Say whether the module in this file is well typed.
+    Check(Word),
     /// Write the report of a run: of the C text in the first file, by the script in the second, within so many steps.
     CRun(Word, Word, u64),
 }
@@ -32,8 +34,14 @@ pub fn words_of(alloc: Global, words: &Seq<Word>) -> Result<Option<Command>, Mem
 fn file_command(alloc: Global, name: &Word, file: &Word) -> Result<Option<Command>, Memory>
     ensures { IfOk result (λ found. found ≡ command (name.now ∷ file.now ∷ [])) }
 {
-    if file.len() > 0 && name.as_slice() == b"emit".as_slice() {
+    if file.len() == 0 {
+        return Ok(None);
+    }
+    let name = name.as_slice();
+    if name == b"emit".as_slice() {
         Ok(Some(Command::Emit(file.copy(alloc)?)))
+    } else if name == b"check".as_slice() {
+        Ok(Some(Command::Check(file.copy(alloc)?)))
     } else {
         Ok(None)
     }

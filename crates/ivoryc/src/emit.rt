@@ -1,10 +1,13 @@
 ghost use Rattle.c_ast.specs.View.{unit_of};
 ghost use Rattle.c_text.specs.Spelling.{unit_text};
 ghost use Rattle.c_text.specs.Subset.{InSubset};
+ghost use Rattle.module_text.specs.Verdicts.{Reads, Judged};
 ghost use Rattle.ivoryc.specs.Calls.{change_of, store_seen, sink_seen};
-ghost use Rattle.ivoryc.specs.Steps.{LoadsFor, Made, Performed, Written};
+ghost use Rattle.ivoryc.specs.Headline.{IsOfNoFirstForm};
+ghost use Rattle.ivoryc.specs.Steps.{LoadsFor, Made, NoUnit, Performed, Written};
 ghost use Rattle.ivoryc.specs.declared.command.Command.TheVariants.{Emit};
 
+use crate::check::keep_rules;
 use crate::input_fault::InputFault;
 use crate::load::load;
 use crate::refusal::Refusal;
@@ -40,15 +43,26 @@ fn compile(alloc: Global, text: &[u8]) -> Result<CUnit, Refusal>
     ensures { Made text.now result }
 {
     let tree = read_module(alloc, text)?;
-    let form = first_form(alloc, &tree)?;
-    give_up_tree(tree);
-    match form {
+    match first_form(alloc, &tree)? {
         Some(module) => {
+            give_up_tree(tree);
             let unit = lower(alloc, &module, Target::T32)?;
             give_up_module(module);
             Ok(unit)
         }
-        None => Err(Refusal::Input(InputFault::NotBuilt)),
+        None => Err(why_not(alloc, text, &tree)),
+    }
+}
+
+/// Why a module that is not of the first form is not compiled: the first rule that it breaks, or that its form is not built yet.
+fn why_not(alloc: Global, text: &[u8], tree: &Module) -> Refusal
+    requires read { Judged text.now (Reads tree.now) }
+    requires none { IsOfNoFirstForm text.now }
+    ensures { NoUnit text.now result }
+{
+    match keep_rules(alloc, text, tree) {
+        Ok(()) => Refusal::Input(InputFault::NotBuilt),
+        Err(refusal) => refusal,
     }
 }
 

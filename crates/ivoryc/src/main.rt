@@ -6,13 +6,16 @@ ghost use Rattle.std.specs.IoError.{error_kind};
 ghost use Rattle.std.specs.declared.io.ErrorKind.TheVariants.{OutOfMemory};
 ghost use Rattle.ivoryc.specs.Statuses as statuses;
 
+mod broken_rule;
 mod c_fault;
 mod call;
+mod check;
 mod command;
 mod crun;
 mod emit;
 mod input_fault;
 mod load;
+mod output;
 mod refusal;
 mod script_fault;
 mod status;

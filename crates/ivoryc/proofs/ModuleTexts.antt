@@ -1,6 +1,8 @@
 -- What the reading of a module text, the search for its first fault and the search for its form say of the text.
-use Rattle.std.proofs.Common.{◌≡◌, ℕ, ◌<◌, List, length, Option, Some, None, sym, ap, subst}
+use Rattle.std.proofs.Common.{◌≡◌, ℕ, ◌<◌, ◌≤◌, List, length, Option, Some, None, sym, ap, subst, arith}
 use Rattle.ivory_lexer.specs.Limits.{source_limit}
+use Rattle.ivory_tree.specs.Formed.{Formed}
+use Rattle.ivory_tree.specs.Nodes.{module_nodes, nodes_count}
 use Rattle.ivory_tree.specs.View.{module_of}
 use Rattle.ivory_tree.specs.declared.Module.{Module}
 use Rattle.first_form.specs.declared.FirstModule.{FirstModule}
@@ -15,7 +17,9 @@ use Rattle.rule_checker.specs.Faults.{pair_of}
 use Rattle.typing_laws.proofs.ExactlyOne.{faultless_is_typed}
 use Rattle.ivoryc.specs.declared.status.Status.TheVariants as status
 use Rattle.ivoryc.specs.Texts.{rule_fault_line}
-use Rattle.ivoryc.specs.Modules.{IsWellTyped, IsNoModule}
+use Rattle.core_tree.specs.Syntax.{ModuleCore}
+use Rattle.iv_checker.specs.Answers.{IsCoreOf, IsFaultOf}
+use Rattle.ivoryc.specs.Modules.{IsWellTyped, StandsFor, IsNoModule}
 use Rattle.ivoryc.specs.Headline.{FirstForm, IsOfNoFirstForm}
 
 -- a text without a first fault is that of a well typed module
@@ -48,3 +52,23 @@ no_form_of_tree text tree read none core form =
     let trees : form.tree ≡ tree = cc in
     let Is : Module → Type 0 = λ t. Stands (module_of t) core in
     none core (subst Is trees form.stands)
+
+-- ---- what is asked of a tree
+
+pub is_short : (text : List ℕ) (tree : Module) → Judged text (Reads tree) → length text ≤ source_limit
+is_short text tree (Judged.reads short cut spelled) = short
+
+pub is_formed : (text : List ℕ) (tree : Module) → Judged text (Reads tree) → Formed (module_of tree)
+is_formed text tree read = (of_text text tree read).formed
+
+pub has_few_nodes : (text : List ℕ) (tree : Module) → Judged text (Reads tree) → nodes_count (module_nodes (module_of tree)) ≤ 2147483648
+has_few_nodes text tree read = omega (arith, is_short text tree read, (of_text text tree read).few_nodes)
+
+-- ---- a core
+
+pub has_core : (text : List ℕ) (tree : Module) (core : ModuleCore) → Judged text (Reads tree) → IsCoreOf (module_of tree) core → StandsFor text core
+has_core text tree core read is = record { tree = tree; read = read; stands = is.stands }
+
+pub has_fault : (text : List ℕ) (tree : Module) (f : RuleFault) → Judged text (Reads tree) → IsFaultOf (module_of tree) f
+    → IsNoModule text status.Refused (rule_fault_line text f.rule f.span)
+has_fault text tree f read is = IsNoModule.broken (record { tree = tree; read = read; fault = is.first })

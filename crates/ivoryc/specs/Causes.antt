@@ -19,7 +19,7 @@ use Rattle.ivoryc.specs.declared.refusal.Refusal.TheVariants as refusal
 use Rattle.ivoryc.specs.declared.status.Status.{Status}
 use Rattle.ivoryc.specs.declared.status.Status.TheVariants as status
 use Rattle.ivoryc.specs.Texts.{too_large_line, not_built_line, place_in, rule_line, c_line, script_line}
-use Rattle.ivoryc.specs.Answers.{Answer, Refuses}
+use Rattle.ivoryc.specs.Allowed.{Answer, Refuses}
 
 abbrev pub refusal_of_load : LoadFault → Refusal
 refusal_of_load load.Fault = refusal.ReadFault

@@ -4,6 +4,9 @@ pub mod Statuses
 pub mod Calls
 pub mod Modules
 pub mod Headline
+pub mod Allowed
+pub mod RunAnswers
+pub mod ModuleAnswers
 pub mod Answers
 pub mod Causes
 pub mod Promise

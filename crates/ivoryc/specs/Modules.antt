@@ -3,9 +3,10 @@ use Rattle.std.specs.Prelude.{ℕ, List}
 use Rattle.iv_words.specs.declared.Span.{Span}
 use Rattle.ivory_tree.specs.View.{module_of}
 use Rattle.ivory_tree.specs.declared.Module.{Module}
+use Rattle.core_tree.specs.Syntax.{ModuleCore}
 use Rattle.module_text.specs.Verdicts.{TooLong, Faulty, Reads, Judged}
 use Rattle.rule_faults.specs.FirstFault.{FirstFault}
-use Rattle.typing_rules.specs.WellTyped.{WellTyped}
+use Rattle.typing_rules.specs.WellTyped.{Stands, WellTyped}
 use Rattle.ivoryc.specs.declared.status.Status.{Status}
 use Rattle.ivoryc.specs.declared.status.Status.TheVariants as status
 use Rattle.ivoryc.specs.Texts.{too_large_line, rule_fault_line}
@@ -15,6 +16,12 @@ pub record IsWellTyped (text : List ℕ) : Type 0 where
   pub tree : Module
   pub read : Judged text (Reads tree)
   pub typed : WellTyped (module_of tree)
+
+-- the text of a tree that stands for this core
+pub record StandsFor (text : List ℕ) (core : ModuleCore) : Type 0 where
+  pub tree : Module
+  pub read : Judged text (Reads tree)
+  pub stands : Stands (module_of tree) core
 
 -- the text of a tree whose first fault is that it breaks this rule at this place
 pub record BreaksRule (text : List ℕ) (rule : ℕ) (span : Span) : Type 0 where

@@ -3,22 +3,15 @@
 ghost use Rattle.std.specs.Prelude.{◌≡◌, ◌≤◌, length};
 ghost use Rattle.ivory_lexer.specs.Limits.{source_limit};
 ghost use Rattle.ivoryc.specs.Causes.{placed_rule};
-ghost use Rattle.ivoryc.specs.Texts.{place_in, rule_line};
+ghost use Rattle.ivoryc.specs.Texts.{rule_line};
 
+use crate::place::Place;
 use arrayvec::ArrayString;
 use itoa::Buffer;
-use iv_words::line_of;
 use rule_checker::RuleFault;
 
 /// A line has four numbers of ten digits at most, one of three, and eleven bytes besides.
 const LONGEST_LINE: usize = 56;
-
-/// A place in a text. Lines and columns count from 1.
-#[derive(Clone, Copy, Debug, Drop, PartialEq, Eq)]
-pub struct Place {
-    pub line: u32,
-    pub column: u32,
-}
 
 /// A rule, by its number, and the places where what breaks it begins and ends.
 #[derive(Clone, Copy, Debug, Drop, PartialEq, Eq)]
@@ -35,8 +28,8 @@ impl BrokenRule {
         ensures { result ≡ placed_rule text.now fault }
     {
         BrokenRule {
-            start: place_of(text, fault.span.start),
-            end: place_of(text, fault.span.end),
+            start: Place::of(text, fault.span.start),
+            end: Place::of(text, fault.span.end),
             rule: fault.rule,
         }
     }
@@ -59,14 +52,4 @@ impl BrokenRule {
         text.push_str("\n");
         text
     }
-}
-
-/// The line and the column of a byte place; one past the text's end stands for the end.
-#[tactic(auto, using(std::proofs::lemmas::List::take_min))]
-fn place_of(text: &[u8], at: u32) -> Place
-    requires { length text.now ≤ source_limit }
-    ensures { result ≡ place_in text.now at }
-{
-    let (line, column) = line_of(text, at.min(text.len() as u32));
-    Place { line, column }
 }

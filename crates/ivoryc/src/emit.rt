@@ -4,12 +4,13 @@ ghost use Rattle.c_text.specs.Subset.{InSubset};
 ghost use Rattle.module_text.specs.Verdicts.{Reads, Judged};
 ghost use Rattle.ivoryc.specs.Calls.{change_of, store_seen, sink_seen};
 ghost use Rattle.ivoryc.specs.Headline.{IsOfNoFirstForm};
-ghost use Rattle.ivoryc.specs.Steps.{LoadsFor, Made, NoUnit, Performed, Written};
+ghost use Rattle.ivoryc.specs.ModuleAnswers.{Emits};
+ghost use Rattle.ivoryc.specs.Steps.{LoadsFor, Made, NoUnit, Performed, Does, Written};
 ghost use Rattle.ivoryc.specs.declared.command.Command.TheVariants.{Emit};
 
-use crate::check::keep_rules;
 use crate::input_fault::InputFault;
 use crate::load::load;
+use crate::read::keep_rules;
 use crate::refusal::Refusal;
 use c_ast::{CUnit, Target};
 use c_lower::lower;
@@ -32,7 +33,14 @@ pub fn emit<S: Store, K: Sink>(
     ensures performed { Performed (Emit file.now) (change_of (store_seen S.holds S.loads S.faults) store.old store.new) (change_of (sink_seen K.held K.taken K.faults) out.old out.new) result }
 {
     let text = load(alloc, file, SOURCE_LIMIT, store)?;
-    let unit = compile(alloc, text.as_slice())?;
+    emit_text(alloc, text.as_slice(), out)
+}
+
+/// Writes the C text of the module of a text.
+fn emit_text<K: Sink>(alloc: Global, text: &[u8], out: &mut K) -> Result<(), Refusal>
+    ensures { Does (Emits text.now) (change_of (sink_seen K.held K.taken K.faults) out.old out.new) result }
+{
+    let unit = compile(alloc, text)?;
     let written = write(&unit, out);
     give_up_unit(unit);
     written

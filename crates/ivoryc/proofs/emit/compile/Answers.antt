@@ -4,7 +4,7 @@ use Rattle.ivory_tree.specs.View.{module_of}
 use Rattle.first_form.proofs.Sound.{valid}
 use Rattle.ivoryc.specs.Causes.{refusal_of_text}
 use Rattle.ivoryc.proofs.ModuleTexts.{no_form_of_tree}
-use Rattle.ivoryc.proofs.Steps.{unread_is_no_unit}
+use Rattle.ivoryc.proofs.TextSteps.{unread_is_no_unit}
 use Rattle.ivoryc.proofs.emit.compile.Goals as goal
 
 pub returns-in_err-tree : goal.returns-in_err-tree

@@ -1,4 +1,4 @@
-use Rattle.ivoryc.proofs.Steps.{no_unit_where_none}
+use Rattle.ivoryc.proofs.TextSteps.{no_unit_where_none}
 use Rattle.ivoryc.proofs.emit.why_not.Goals as goal
 
 pub returns-in-Ok : goal.returns-in-Ok

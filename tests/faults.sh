@@ -47,7 +47,7 @@ text 'module m; abcdefghijklmnopqrstuvwxyzabc @'; expect 1 '1:11: long name'
 text 'module abcdefghijklmnopqrstuvwxyzab;'; expect 0 ''
 text 'module m; -- empty'; expect 0 ''
 text 'module\tm /* a\r\n */ ;\nimport p(x : uint8_t);\nexport proc q() { p(0xFf); p(007); }'; expect 0 ''
-text 'module m;\nimport led(on : uint8_t);\nexport proc go() {\n  led(256);\n}\n'; expect 8 'not built yet'
+text 'module m;\nimport led(on : uint8_t);\nexport proc go() {\n  led(256);\n}\n'; expect 1 '4:7-4:10: rule 19'
 text 'module m;'; printf '%*s' $((262144 - 9)) '' >>"$work/a.iv"; expect 0 ''
 text 'module m;'; printf '%*s' $((262145 - 9)) '' >>"$work/a.iv"; expect 6 'too large'
 

@@ -7,7 +7,8 @@ use Rattle.ivoryc.specs.declared.status.Status.{Status}
 use Rattle.ivoryc.specs.declared.status.Status.TheVariants as status
 use Rattle.ivoryc.specs.Commands.{command}
 use Rattle.ivoryc.specs.Calls.{Call, StandsUnder, Unread, Unwritten}
-use Rattle.ivoryc.specs.Answers.{Answer, Compiles, Gives, Refuses, Allows, status_of, Comes}
+use Rattle.ivoryc.specs.Allowed.{Answer, Compiles, Gives, Refuses, Allows, status_of}
+use Rattle.ivoryc.specs.Answers.{Comes}
 use Rattle.ivoryc.specs.Promise.{ComesTo, Writes, Due, IsAnswered, IsTold, output_for, files_named, files_due, Promise}
 use Rattle.ivoryc.proofs.Once.{comes_to_once}
 

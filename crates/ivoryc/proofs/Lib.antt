@@ -1,4 +1,6 @@
-pub mod StepWords
+pub mod Numbers
+pub mod ModuleTexts
 pub mod Once
 pub mod Answered
+pub mod TextSteps
 pub mod Steps

@@ -1,124 +1,209 @@
 -- Over the texts that stand under the names of its files, a command comes to one answer.
-use Rattle.std.proofs.Common.{◌≡◌, ◌⊎◌, ℕ, ◌<◌, ◌≤◌, List, length, Option, Some, Result, Ok, Err, refl, sym, ◌∙◌, ap, subst, inl, inr, arith}
+use Rattle.std.proofs.Common.{◌≡◌, ◌⊎◌, ℕ, ◌<◌, ◌≤◌, List, length, Option, Some, Result, Ok, Err, refl, sym, ◌∙◌, ap, subst, arith}
 use Rattle.std.specs.Prelude.{IsOk}
+use Rattle.iv_base.specs.Stores.{FileMap}
+use Rattle.iv_words.specs.declared.Span.{Span}
+use Rattle.run_records.specs.declared.Export.{Export}
 use Rattle.run_records.specs.declared.Script.{Script}
 use Rattle.iv_script.specs.Fit.{fit_of}
-use Rattle.iv_script.specs.Report.{report}
 use Rattle.iv_script.specs.ScriptText.{script_limit, script_of}
 use Rattle.iv_script.specs.declared.ScriptFault.{ScriptFault}
 use Rattle.iv_script.proofs.Fitting.{fits_where_ok}
-use Rattle.iv_base.specs.Stores.{FileMap}
+use Rattle.generated_module.specs.Generated.{generated}
+use Rattle.ivory_lexer.specs.Limits.{source_limit}
 use Rattle.ivory_tree.specs.View.{module_of}
-use Rattle.first_form.specs.declared.FirstModule.{FirstModule}
-use Rattle.first_form.specs.Stands.{Stands}
+use Rattle.ivory_tree.specs.declared.Module.{Module}
 use Rattle.module_text.specs.Verdicts.{Verdict, TooLong, Faulty, Reads, Judged}
 use Rattle.module_text.proofs.Verdicts.{judged_once}
+use Rattle.module_text.proofs.Trees.{of_text}
+use Rattle.first_form.specs.declared.FirstModule.{FirstModule}
+use Rattle.core_tree.specs.Syntax.{ModuleCore}
+use Rattle.core_tree.specs.Exports.{exports_of}
+use Rattle.core_tree.specs.Sites.{AreSites}
+use Rattle.core_tree.specs.declared.Check.{Check}
+use Rattle.core_tree.specs.Checks.{checks_of}
+use Rattle.core_tree.proofs.Sites.{sites_are_one_row}
+use Rattle.rule_faults.specs.FirstFault.{FirstFault}
+use Rattle.rule_faults.proofs.Found.{unique_law}
+use Rattle.typing_rules.specs.WellTyped.{Stands, WellTyped}
+use Rattle.typing_laws.proofs.ExactlyOne.{exactly_one}
+use Rattle.typing_laws.proofs.OneCore.{one_core as core_once}
 use Rattle.c_ast.specs.declared.Target.TheVariants.{T32}
 use Rattle.c_ast.specs.Exports.{c_exports}
-use Rattle.c_ast.specs.Syntax.{TranslationUnit}
-use Rattle.c_text.specs.Faults.{HasFault}
-use Rattle.c_text.specs.ReadsBack.{ReadsBack}
-use Rattle.c_text.specs.declared.CFault.{CFault}
-use Rattle.c_meaning.specs.Runs.{run_c}
 use Rattle.c_reader.specs.Answers.{text_limit}
 use Rattle.c_reader.proofs.Verdicts.{not_unit_and_fault, one_unit, one_fault}
 use Rattle.ivoryc.specs.declared.command.Command.{Command}
-use Rattle.ivoryc.specs.declared.command.Command.TheVariants.{Emit, CRun}
+use Rattle.ivoryc.specs.declared.command.Command.TheVariants as command
+use Rattle.ivoryc.specs.declared.command.Command.TheVariants.{Emit, Sites, Run, CRun, Big}
+use Rattle.ivoryc.specs.declared.status.Status.{Status}
 use Rattle.ivoryc.specs.declared.status.Status.TheVariants as status
-use Rattle.ivoryc.specs.Texts.{too_large_line, not_built_line, c_fault_line, script_line}
+use Rattle.ivoryc.specs.Texts.{too_large_line, rule_fault_line, sites_text, c_fault_line, script_line}
 use Rattle.ivoryc.specs.Calls.{StandsUnder}
-use Rattle.ivoryc.specs.Answers.{Answer, Compiles, Gives, Refuses, Standing, Given, Comes, compiled, too_long, at_fault, not_built, ran, c_too_long, script_too_long, c_at_fault, script_unread, script_unfit}
-
--- under a name stands one text
-abbrev pub OneText : Standing → Type 0
-OneText stands = (name s t : List ℕ) → stands name s → stands name t → s ≡ t
+use Rattle.ivoryc.specs.Modules.{IsWellTyped, StandsFor, IsNoModule, too_long, at_fault, broken}
+use Rattle.ivoryc.specs.Headline.{FirstForm, IsOfNoFirstForm}
+use Rattle.ivoryc.specs.Allowed.{Answer, Gives, Refuses}
+use Rattle.ivoryc.specs.ModuleAnswers.{Emits, compiled, not_compiled, not_built, Checks, checked, not_checked, ListsSites, listed, not_listed, Measures, measured, not_measured, big_text}
+use Rattle.ivoryc.specs.RunAnswers.{RunsBy, fitting, unread, unfit, RunsModule, ran, not_ran, module_report, RunsUnit, c_ran, c_at_fault, unit_report}
+use Rattle.ivoryc.specs.Answers as answers
+use Rattle.ivoryc.specs.Answers.{Standing, Given, TooLongFor, text_long, script_long, Comes, run_too_long, c_too_long}
 
 -- ---- a module text
 
--- what one that reads as this verdict comes to
+-- what one that reads as this verdict is refused with
 abbrev Says : List ℕ → Verdict → Answer → Type 0
 Says text TooLong a = a ≡ Refuses status.TooLarge too_large_line
 Says text (Faulty line) a = a ≡ Refuses status.Refused line
-Says text (Reads tree) a =
-    ((core : FirstModule) × Stands (module_of tree) core × (a ≡ Compiles text))
-    ⊎ (((core : FirstModule) → ¬ Stands (module_of tree) core) × (a ≡ Refuses status.NotBuilt not_built_line))
+Says text (Reads tree) a = (rule : ℕ) × (span : Span) × FirstFault (module_of tree) rule span × (a ≡ Refuses status.Refused (rule_fault_line text rule span))
 
 said_once : (text : List ℕ) (v : Verdict) (a b : Answer) → Says text v a → Says text v b → a ≡ b
 said_once text TooLong a b p q = p ∙ sym q
 said_once text (Faulty line) a b p q = p ∙ sym q
-said_once text (Reads tree) a b (inl (core, stands, is)) (inl (other, same, q)) = is ∙ sym q
-said_once text (Reads tree) a b (inl (core, stands, is)) (inr (none, q)) = absurd (none core stands)
-said_once text (Reads tree) a b (inr (none, is)) (inl (core, stands, q)) = absurd (none core stands)
-said_once text (Reads tree) a b (inr (none, is)) (inr (other, q)) = is ∙ sym q
+said_once text (Reads tree) a b (j, s, fault, is) (k, t, other, is2) =
+    let one = unique_law (module_of tree) j k s t fault other in
+    is ∙ ap (λ r. Refuses status.Refused (rule_fault_line text r s)) one.0 ∙ ap (λ r. Refuses status.Refused (rule_fault_line text k r)) one.1 ∙ sym is2
 
-record Emits (stands : Standing) (file : List ℕ) (a : Answer) : Type 0 where
-  text : List ℕ
-  stands_so : stands file text
+record IsRefused (text : List ℕ) (a : Answer) : Type 0 where
   verdict : Verdict
   judged : Judged text verdict
   says : Says text verdict a
 
-emits : (stands : Standing) (file : List ℕ) (a : Answer) → Comes stands (Emit file) a → Emits stands file a
-emits stands file a (compiled {text = text} {core = core} so form) =
-    record { text = text; stands_so = so; verdict = Reads form.tree; judged = form.read; says = inl (core, form.stands, refl) }
-emits stands file a (too_long {text = text} so long) = record { text = text; stands_so = so; verdict = TooLong; judged = long; says = refl }
-emits stands file a (at_fault {text = text} {line = line} so faulty) = record { text = text; stands_so = so; verdict = Faulty line; judged = faulty; says = refl }
-emits stands file a (not_built {text = text} so un) =
-    record { text = text; stands_so = so; verdict = Reads un.tree; judged = un.read; says = inr (un.none, refl) }
+is_refused : (text line : List ℕ) (s : Status) → IsNoModule text s line → IsRefused text (Refuses s line)
+is_refused text line s (too_long long) = record { verdict = TooLong; judged = long; says = refl }
+is_refused text line s (at_fault faulty) = record { verdict = Faulty line; judged = faulty; says = refl }
+is_refused text line s (broken {rule = rule} {span = span} b) = record { verdict = Reads b.tree; judged = b.read; says = (rule, span, b.fault, refl) }
 
-emits_once : (stands : Standing) → OneText stands → (file : List ℕ) (a b : Answer) → Emits stands file a → Emits stands file b → a ≡ b
-emits_once stands one file a b p q =
-    let text : q.text ≡ p.text = one file q.text p.text q.stands_so p.stands_so in
-    let Judges : List ℕ → Type 0 = λ t. Judged t q.verdict in
-    let verdict : p.verdict ≡ q.verdict = judged_once p.text p.verdict q.verdict p.judged (subst Judges text q.judged) in
-    let Told : List ℕ → Type 0 = λ t. Says t q.verdict b in
-    let Is : Verdict → Type 0 = λ v. Says p.text v b in
-    said_once p.text p.verdict a b p.says (subst Is (sym verdict) (subst Told text q.says))
+refused_once : (text : List ℕ) (a b : Answer) → IsRefused text a → IsRefused text b → a ≡ b
+refused_once text a b p q =
+    let verdict : p.verdict ≡ q.verdict = judged_once text p.verdict q.verdict p.judged q.judged in
+    let Is : Verdict → Type 0 = λ v. Says text v b in
+    said_once text p.verdict a b p.says (subst Is (sym verdict) q.says)
 
--- ---- a run of C
+-- two refusals of one text
+none_once : (text line words : List ℕ) (s t : Status) → IsNoModule text s line → IsNoModule text t words → Refuses s line ≡ Refuses t words
+none_once text line words s t p q = refused_once text (Refuses s line) (Refuses t words) (is_refused text line s p) (is_refused text words t q)
 
-abbrev too_large : Answer
-too_large = Refuses status.TooLarge too_large_line
+-- a well typed module breaks no rule
+sound : {A : Type 0} (text : List ℕ) (tree : Module) (rule : ℕ) (span : Span) → Judged text (Reads tree) → WellTyped (module_of tree)
+    → FirstFault (module_of tree) rule span → A
+sound text tree rule span read typed fault =
+    absurd ((exactly_one (module_of tree) (of_text text tree read).formed).1 typed (record { rule = rule; span = span; fault = fault }))
 
--- what comes of a script where the C text reads
+typed_or_none : {A : Type 0} (text line : List ℕ) (s : Status) → IsWellTyped text → IsNoModule text s line → A
+typed_or_none text line s w (too_long long) =
+    let no : Reads w.tree ≡ TooLong = judged_once text (Reads w.tree) TooLong w.read long in let not : ⊥ = cc in absurd not
+typed_or_none text line s w (at_fault faulty) =
+    let no : Reads w.tree ≡ Faulty line = judged_once text (Reads w.tree) (Faulty line) w.read faulty in let not : ⊥ = cc in absurd not
+typed_or_none text line s w (broken {rule = rule} {span = span} b) =
+    let verdicts : Reads b.tree ≡ Reads w.tree = judged_once text (Reads b.tree) (Reads w.tree) b.read w.read in
+    let trees : b.tree ≡ w.tree = cc in
+    let Faults : Module → Type 0 = λ t. FirstFault (module_of t) rule span in
+    sound text w.tree rule span w.read w.typed (subst Faults trees b.fault)
+
+form_or_none : {A : Type 0} (text : List ℕ) (core : FirstModule) → FirstForm text core → IsOfNoFirstForm text → A
+form_or_none text core form none = absurd (none core form)
+
+emits_once : (text : List ℕ) (a b : Answer) → Emits text a → Emits text b → a ≡ b
+emits_once text a b (compiled form) (compiled other) = refl
+emits_once text a b (compiled {core = core} form) (not_compiled none not) = form_or_none text core form none
+emits_once text a b (compiled {core = core} form) (not_built un) = form_or_none text core form un.none
+emits_once text a b (not_compiled none not) (compiled {core = core} form) = form_or_none text core form none
+emits_once text a b (not_compiled none not) (not_compiled none2 not2) = none_once text _ _ _ _ not not2
+emits_once text a b (not_compiled none not) (not_built un) = typed_or_none text _ _ un.typed not
+emits_once text a b (not_built un) (compiled {core = core} form) = form_or_none text core form un.none
+emits_once text a b (not_built un) (not_compiled none not) = typed_or_none text _ _ un.typed not
+emits_once text a b (not_built un) (not_built un2) = refl
+
+checks_once : (text : List ℕ) (a b : Answer) → Checks text a → Checks text b → a ≡ b
+checks_once text a b (checked typed) (checked typed2) = refl
+checks_once text a b (checked typed) (not_checked not) = typed_or_none text _ _ typed not
+checks_once text a b (not_checked not) (checked typed) = typed_or_none text _ _ typed not
+checks_once text a b (not_checked not) (not_checked not2) = none_once text _ _ _ _ not not2
+
+-- a text stands for one core
+one_core : (text : List ℕ) (c d : ModuleCore) → StandsFor text c → StandsFor text d → c ≡ d
+one_core text c d p q =
+    let verdicts : Reads p.tree ≡ Reads q.tree = judged_once text (Reads p.tree) (Reads q.tree) p.read q.read in
+    let trees : p.tree ≡ q.tree = cc in
+    let Has : Module → Type 0 = λ t. Stands (module_of t) c in
+    core_once (module_of q.tree) c d (subst Has trees p.stands) q.stands
+
+core_or_none : {A : Type 0} (text line : List ℕ) (s : Status) (core : ModuleCore) → StandsFor text core → IsNoModule text s line → A
+core_or_none text line s core p none = typed_or_none text line s (record { tree = p.tree; read = p.read; typed = record { core = core; stands = p.stands } }) none
+
+-- whose sites are one row
+one_row : (c d : ModuleCore) (p q : List Check) → c ≡ d → AreSites c p → AreSites d q → p ≡ q
+one_row c d p q same x y = let Has : ModuleCore → Type 0 = λ m. AreSites m q in sites_are_one_row (checks_of c) p q x (subst Has (sym same) y)
+
+lists_once : (text : List ℕ) (a b : Answer) → ListsSites text a → ListsSites text b → a ≡ b
+lists_once text a b (listed {core = c} {sites = p} x s) (listed {core = d} {sites = q} y t) = ap (λ r. Gives (sites_text text r)) (one_row c d p q (one_core text c d x y) s t)
+lists_once text a b (listed {core = c} x s) (not_listed not) = core_or_none text _ _ c x not
+lists_once text a b (not_listed not) (listed {core = c} x s) = core_or_none text _ _ c x not
+lists_once text a b (not_listed not) (not_listed not2) = none_once text _ _ _ _ not not2
+
+measures_once : (k : ℕ) (a b : Answer) → Measures k a → Measures k b → a ≡ b
+measures_once k a b (measured {core = c} {sites = p} x s) (measured {core = d} {sites = q} y t) =
+    let cores : c ≡ d = one_core (generated k) c d x y in
+    ap (λ m. Gives (big_text k m p)) cores ∙ ap (λ r. Gives (big_text k d r)) (one_row c d p q cores s t)
+measures_once k a b (measured {core = c} x s) (not_measured not) = core_or_none (generated k) _ _ c x not
+measures_once k a b (not_measured not) (measured {core = c} x s) = core_or_none (generated k) _ _ c x not
+measures_once k a b (not_measured not) (not_measured not2) = none_once (generated k) _ _ _ _ not not2
+
+-- ---- runs
+
+-- what comes of a script
 abbrev fitted : List ℕ → Result (Unit {0}) ScriptFault → Answer
 fitted bytes (Err fault) = Refuses status.Script (script_line fault)
 fitted bytes (Ok done) = Gives bytes
 
-abbrev run_by : TranslationUnit → ℕ → Result Script ScriptFault → Answer
-run_by u n (Err fault) = Refuses status.Script (script_line fault)
-run_by u n (Ok s) = fitted (report (run_c u T32 s n)) (fit_of s.calls (c_exports u))
-
--- why a run comes to its answer
-data Runs (stands : Standing) (file script : List ℕ) (n : ℕ) (a : Answer) : Type 0 where
-  long : {text : List ℕ} → stands file text → text_limit < length text → a ≡ too_large → Runs stands file script n a
-  script_long : {text said : List ℕ} → stands file text → length text ≤ text_limit → stands script said → script_limit < length said → a ≡ too_large
-      → Runs stands file script n a
-  faulty : {text said : List ℕ} (fault : CFault) → Given stands file script text said → HasFault T32 text fault
-      → a ≡ Refuses status.Refused (c_fault_line text fault) → Runs stands file script n a
-  reads : {text said : List ℕ} (u : TranslationUnit) → Given stands file script text said → ReadsBack u text T32 → a ≡ run_by u n (script_of said)
-      → Runs stands file script n a
+abbrev run_by : List Export → (Script → List ℕ) → Result Script ScriptFault → Answer
+run_by exports reported (Err fault) = Refuses status.Script (script_line fault)
+run_by exports reported (Ok s) = fitted (reported s) (fit_of s.calls exports)
 
 fitted_ok : (bytes : List ℕ) (r : Result (Unit {0}) ScriptFault) → IsOk r → fitted bytes r ≡ Gives bytes
 fitted_ok bytes (Ok done) ok = refl
 fitted_ok bytes (Err fault) ok = let no : ⊥ = cc in absurd no
 
-runs_by : (u : TranslationUnit) (n : ℕ) (said : List ℕ) (s : Script) (a : Answer) → script_of said ≡ Ok s
-    → fitted (report (run_c u T32 s n)) (fit_of s.calls (c_exports u)) ≡ a → a ≡ run_by u n (script_of said)
-runs_by u n said s a says is = sym (ap (run_by u n) says ∙ is)
+says_so : (exports : List Export) (reported : Script → List ℕ) (said : List ℕ) (s : Script) (a : Answer) → script_of said ≡ Ok s
+    → fitted (reported s) (fit_of s.calls exports) ≡ a → a ≡ run_by exports reported (script_of said)
+says_so exports reported said s a says is = sym (ap (run_by exports reported) says ∙ is)
 
-runs : (stands : Standing) (file script : List ℕ) (n : ℕ) (a : Answer) → Comes stands (CRun file script n) a → Runs stands file script n a
-runs stands file script n a (ran {said = said} {u = u} {s = s} given back says fits) =
-    let bytes : List ℕ = report (run_c u T32 s n) in
-    let ok : IsOk (fit_of s.calls (c_exports u)) = (fits_where_ok s.calls (c_exports u) (fit_of s.calls (c_exports u)) refl).1 fits in
-    reads u given back (runs_by u n said s (Gives bytes) says (fitted_ok bytes (fit_of s.calls (c_exports u)) ok))
-runs stands file script n a (c_too_long so big) = long so big refl
-runs stands file script n a (script_too_long so short said_so big) = script_long so short said_so big refl
-runs stands file script n a (c_at_fault fault given is) = faulty fault given is refl
-runs stands file script n a (script_unread {u = u} given back says) =
-    reads u given back (sym (ap (run_by u n) says))
-runs stands file script n a (script_unfit {said = said} {u = u} {s = s} {fault = fault} given back says unfit) =
-    reads u given back (runs_by u n said s (Refuses status.Script (script_line fault)) says (ap (fitted (report (run_c u T32 s n))) unfit))
+by_script : (exports : List Export) (reported : Script → List ℕ) (said : List ℕ) (a : Answer) → RunsBy exports reported said a
+    → a ≡ run_by exports reported (script_of said)
+by_script exports reported said a (fitting {s = s} says fits) =
+    let ok : IsOk (fit_of s.calls exports) = (fits_where_ok s.calls exports (fit_of s.calls exports) refl).1 fits in
+    says_so exports reported said s (Gives (reported s)) says (fitted_ok (reported s) (fit_of s.calls exports) ok)
+by_script exports reported said a (unread says) = sym (ap (run_by exports reported) says)
+by_script exports reported said a (unfit {s = s} {fault = fault} says not) =
+    says_so exports reported said s (Refuses status.Script (script_line fault)) says (ap (fitted (reported s)) not)
+
+module_once : (text said : List ℕ) (n : ℕ) (a b : Answer) → RunsModule text said n a → RunsModule text said n b → a ≡ b
+module_once text said n a b (ran {core = c} x r) (ran {core = d} y t) =
+    by_script (exports_of c) (module_report c n) said a r
+    ∙ ap (λ m. run_by (exports_of m) (module_report m n) (script_of said)) (one_core text c d x y)
+    ∙ sym (by_script (exports_of d) (module_report d n) said b t)
+module_once text said n a b (ran {core = c} x r) (not_ran not) = core_or_none text _ _ c x not
+module_once text said n a b (not_ran not) (ran {core = c} x r) = core_or_none text _ _ c x not
+module_once text said n a b (not_ran not) (not_ran not2) = none_once text _ _ _ _ not not2
+
+unit_once : (text said : List ℕ) (n : ℕ) (a b : Answer) → RunsUnit text said n a → RunsUnit text said n b → a ≡ b
+unit_once text said n a b (c_ran {u = u} x r) (c_ran {u = v} y t) =
+    by_script (c_exports u) (unit_report u n) said a r
+    ∙ ap (λ w. run_by (c_exports w) (unit_report w n) (script_of said)) (one_unit T32 text u v x y)
+    ∙ sym (by_script (c_exports v) (unit_report v n) said b t)
+unit_once text said n a b (c_ran {u = u} x r) (c_at_fault fault is) = absurd (not_unit_and_fault T32 text u fault x is)
+unit_once text said n a b (c_at_fault fault is) (c_ran {u = u} x r) = absurd (not_unit_and_fault T32 text u fault x is)
+unit_once text said n a b (c_at_fault f p) (c_at_fault g q) = ap (λ h. Refuses status.Refused (c_fault_line text h)) (one_fault T32 text f g p q)
+
+-- ---- a command
+
+-- under a name stands one text
+abbrev pub OneText : Standing → Type 0
+OneText stands = (name s t : List ℕ) → stands name s → stands name t → s ≡ t
+
+-- what comes of the one text
+of_one : (stands : Standing) → OneText stands → (Is : List ℕ → Answer → Type 0) → ((t : List ℕ) (a b : Answer) → Is t a → Is t b → a ≡ b)
+    → (file t u : List ℕ) (a b : Answer) → stands file t → stands file u → Is t a → Is u b → a ≡ b
+of_one stands one Is once file t u a b p q x y = let Over : List ℕ → Type 0 = λ r. Is r b in once t a b x (subst Over (one file u t q p) y)
 
 -- no text is longer than a limit and within it
 not_both : {A : Type 0} (stands : Standing) → OneText stands → (name s t : List ℕ) (most : ℕ) → stands name s → most < length s → stands name t
@@ -127,53 +212,35 @@ not_both stands one name s t most p big q short =
     let same : length s ≡ length t = ap length (one name s t p q) in
     absurd (omega arith)
 
-same_fault : (text other : List ℕ) (f g : CFault) → other ≡ text → HasFault T32 text f → HasFault T32 other g → c_fault_line text f ≡ c_fault_line other g
-same_fault text other f g same p q =
-    let Is : List ℕ → Type 0 = λ t. HasFault T32 t g in
-    let faults : f ≡ g = one_fault T32 text f g p (subst Is same q) in
-    ap (c_fault_line text) faults ∙ ap (λ t. c_fault_line t g) (sym same)
+not_given : {A : Type 0} (stands : Standing) → OneText stands → (file : List ℕ) (most : ℕ) (script text said : List ℕ) → Given stands file most script text said
+    → TooLongFor stands file most script → A
+not_given stands one file most script text said g (text_long p big) = not_both stands one file _ text most p big g.text_stands g.text_short
+not_given stands one file most script text said g (script_long p short q big) = not_both stands one script _ said script_limit q big g.script_stands g.script_short
 
-fault_or_unit : {A : Type 0} (text other : List ℕ) (u : TranslationUnit) (f : CFault) → other ≡ text → ReadsBack u text T32 → HasFault T32 other f → A
-fault_or_unit text other u f same back is =
-    let Is : List ℕ → Type 0 = λ t. HasFault T32 t f in
-    absurd (not_unit_and_fault T32 text u f back (subst Is same is))
-
-same_run : (text other said others : List ℕ) (u v : TranslationUnit) (n : ℕ) → other ≡ text → others ≡ said → ReadsBack u text T32 → ReadsBack v other T32
-    → run_by u n (script_of said) ≡ run_by v n (script_of others)
-same_run text other said others u v n same alike p q =
-    let Is : List ℕ → Type 0 = λ t. ReadsBack v t T32 in
-    let units : u ≡ v = one_unit T32 text u v p (subst Is same q) in
-    ap (λ w. run_by w n (script_of said)) units ∙ ap (λ t. run_by v n (script_of t)) (sym alike)
-
-runs_once : (stands : Standing) → OneText stands → (file script : List ℕ) (n : ℕ) (a b : Answer) → Runs stands file script n a → Runs stands file script n b
+-- what comes of the two texts
+of_two : (stands : Standing) → OneText stands → (Is : List ℕ → List ℕ → Answer → Type 0) → ((t s : List ℕ) (a b : Answer) → Is t s a → Is t s b → a ≡ b)
+    → (file : List ℕ) (most : ℕ) (script t u r s : List ℕ) (a b : Answer) → Given stands file most script t r → Given stands file most script u s → Is t r a → Is u s b
     → a ≡ b
-runs_once stands one file script n a b (long p big e) (long q more f) = e ∙ sym f
-runs_once stands one file script n a b (long p big e) (script_long q short r more f) = not_both stands one file _ _ text_limit p big q short
-runs_once stands one file script n a b (long p big e) (faulty g q is f) = not_both stands one file _ _ text_limit p big q.text_stands q.text_short
-runs_once stands one file script n a b (long p big e) (reads u q back f) = not_both stands one file _ _ text_limit p big q.text_stands q.text_short
-runs_once stands one file script n a b (script_long p short r big e) (long q more f) = not_both stands one file _ _ text_limit q more p short
-runs_once stands one file script n a b (script_long p short r big e) (script_long q less s more f) = e ∙ sym f
-runs_once stands one file script n a b (script_long p short r big e) (faulty g q is f) = not_both stands one script _ _ script_limit r big q.script_stands q.script_short
-runs_once stands one file script n a b (script_long p short r big e) (reads u q back f) =
-    not_both stands one script _ _ script_limit r big q.script_stands q.script_short
-runs_once stands one file script n a b (faulty g p is e) (long q more f) = not_both stands one file _ _ text_limit q more p.text_stands p.text_short
-runs_once stands one file script n a b (faulty g p is e) (script_long q less s more f) =
-    not_both stands one script _ _ script_limit s more p.script_stands p.script_short
-runs_once stands one file script n a b (faulty {text = text} g p is e) (faulty {text = other} h q is2 f) =
-    e ∙ ap (Refuses status.Refused) (same_fault text other g h (one file other text q.text_stands p.text_stands) is is2) ∙ sym f
-runs_once stands one file script n a b (faulty {text = text} g p is e) (reads {text = other} u q back f) =
-    fault_or_unit other text u g (one file text other p.text_stands q.text_stands) back is
-runs_once stands one file script n a b (reads u p back e) (long q more f) = not_both stands one file _ _ text_limit q more p.text_stands p.text_short
-runs_once stands one file script n a b (reads u p back e) (script_long q less s more f) =
-    not_both stands one script _ _ script_limit s more p.script_stands p.script_short
-runs_once stands one file script n a b (reads {text = text} u p back e) (faulty {text = other} h q is f) =
-    fault_or_unit text other u h (one file other text q.text_stands p.text_stands) back is
-runs_once stands one file script n a b (reads {text = text} {said = said} u p back e) (reads {text = other} {said = others} v q back2 f) =
-    e ∙ same_run text other said others u v n (one file other text q.text_stands p.text_stands) (one script others said q.script_stands p.script_stands) back back2 ∙ sym f
+of_two stands one Is once file most script t u r s a b g h x y =
+    let Over : List ℕ → Type 0 = λ v. Is v s b in
+    let By : List ℕ → Type 0 = λ v. Is t v b in
+    once t r a b x (subst By (one script s r h.script_stands g.script_stands) (subst Over (one file u t h.text_stands g.text_stands) y))
 
 comes_once : (stands : Standing) → OneText stands → (asked : Command) (a b : Answer) → Comes stands asked a → Comes stands asked b → a ≡ b
-comes_once stands one (Emit file) a b p q = emits_once stands one file a b (emits stands file a p) (emits stands file b q)
-comes_once stands one (CRun file script n) a b p q = runs_once stands one file script n a b (runs stands file script n a p) (runs stands file script n b q)
+comes_once stands one (Emit file) a b (answers.emitted {text = t} p x) (answers.emitted {text = u} q y) = of_one stands one Emits emits_once file t u a b p q x y
+comes_once stands one (command.Check file) a b (answers.checked {text = t} p x) (answers.checked {text = u} q y) = of_one stands one Checks checks_once file t u a b p q x y
+comes_once stands one (Sites file) a b (answers.listed {text = t} p x) (answers.listed {text = u} q y) = of_one stands one ListsSites lists_once file t u a b p q x y
+comes_once stands one (Run file script n) a b (answers.ran {text = t} {said = r} g x) (answers.ran {text = u} {said = s} h y) =
+    of_two stands one (λ v w c. RunsModule v w n c) (λ v w. module_once v w n) file source_limit script t u r s a b g h x y
+comes_once stands one (Run file script n) a b (answers.ran {text = t} {said = r} g x) (run_too_long long) = not_given stands one file source_limit script t r g long
+comes_once stands one (Run file script n) a b (run_too_long long) (answers.ran {text = u} {said = s} h y) = not_given stands one file source_limit script u s h long
+comes_once stands one (Run file script n) a b (run_too_long long) (run_too_long long2) = refl
+comes_once stands one (CRun file script n) a b (answers.c_ran {text = t} {said = r} g x) (answers.c_ran {text = u} {said = s} h y) =
+    of_two stands one (λ v w c. RunsUnit v w n c) (λ v w. unit_once v w n) file text_limit script t u r s a b g h x y
+comes_once stands one (CRun file script n) a b (answers.c_ran {text = t} {said = r} g x) (c_too_long long) = not_given stands one file text_limit script t r g long
+comes_once stands one (CRun file script n) a b (c_too_long long) (answers.c_ran {text = u} {said = s} h y) = not_given stands one file text_limit script u s h long
+comes_once stands one (CRun file script n) a b (c_too_long long) (c_too_long long2) = refl
+comes_once stands one (Big k) a b (answers.measured x) (answers.measured y) = measures_once k a b x y
 
 -- what a store tells under a name is one text
 one_text : (files : FileMap) → OneText (StandsUnder (Some files))

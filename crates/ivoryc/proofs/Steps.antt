@@ -1,23 +1,12 @@
--- The answers of the steps of a call make up what the call promises.
+-- The answers of the steps of a command make up what the command comes to, and those of a call what the call promises.
 use Rattle.std.proofs.Common.{◌≡◌, ℕ, ◌+◌, ◌<◌, ◌≤◌, ◌⊎◌, Bool, true, false, nat_lt, if◌then◌else◌, List, length, Some, None, Result, Ok, Err, refl, sym, ap, subst, inl, inr, arith}
 use Rattle.iv_base.specs.Stores.{FileMap, text_of}
-use Rattle.iv_script.specs.Report.{report}
-use Rattle.iv_script.specs.declared.ScriptFault.{ScriptFault}
-use Rattle.c_ast.specs.Exports.{c_exports}
-use Rattle.c_ast.specs.Syntax.{TranslationUnit}
-use Rattle.c_meaning.specs.Runs.{run_c}
-use Rattle.c_reader.specs.Answers.{text_limit}
-use Rattle.c_ast.specs.declared.CUnit.{CUnit}
-use Rattle.c_ast.specs.declared.Target.TheVariants.{T32}
-use Rattle.c_ast.specs.View.{unit_of}
-use Rattle.c_text.specs.Spelling.{unit_text}
-use Rattle.c_text.specs.ReadsBack.{ReadsBack}
-use Rattle.c_grammar.proofs.Texts.{texts_apart}
+use Rattle.iv_script.specs.ScriptText.{script_limit}
 use Rattle.ivory_lexer.specs.Limits.{source_limit}
+use Rattle.c_reader.specs.Answers.{text_limit}
 use Rattle.module_text.specs.Verdicts.{Judged}
 use Rattle.ivoryc.specs.declared.command.Command.{Command}
-use Rattle.ivoryc.specs.declared.command.Command.TheVariants.{Emit, CRun}
-use Rattle.ivoryc.specs.declared.c_fault.CTextFault.{CTextFault}
+use Rattle.ivoryc.specs.declared.command.Command.TheVariants.{Emit, Check, Sites, Run, CRun, Big}
 use Rattle.ivoryc.specs.declared.input_fault.InputFault.{InputFault}
 use Rattle.ivoryc.specs.declared.input_fault.InputFault.TheVariants as input
 use Rattle.ivoryc.specs.declared.refusal.Refusal.{Refusal}
@@ -25,181 +14,172 @@ use Rattle.ivoryc.specs.declared.refusal.Refusal.TheVariants as refusal
 use Rattle.ivoryc.specs.declared.status.Status.{Status}
 use Rattle.ivoryc.specs.declared.status.Status.TheVariants as status
 use Rattle.ivoryc.specs.Commands.{command}
-use Rattle.ivoryc.specs.Texts.{usage_line, read_fault_line}
+use Rattle.ivoryc.specs.Texts.{usage_line, read_fault_line, too_large_line}
 use Rattle.ivoryc.specs.Causes.{status_of, line_of, answer_of}
 use Rattle.ivoryc.specs.Calls.{StoreSeen, SinkSeen, Change, Call, Unchanged, Took, FailedAt, StandsUnder}
-use Rattle.ivoryc.specs.Headline.{IsCompiled}
-use Rattle.ivoryc.specs.Answers.{Compiles, Gives, Given, Comes, compiled, too_long, at_fault, not_built, ran, c_too_long, script_too_long, c_at_fault, script_unread, script_unfit}
-use Rattle.ivoryc.specs.Promise.{ComesTo, IsCommand, Writes, Due, IsAnswered, Promise}
-use Rattle.ivoryc.specs.Steps.{LoadsAtMost, IsWhole, IsTooLong, Loaded, LoadsFor, LoadsBoth, AreWhole, IsScriptTooLong, BothLoaded, IsUnitOf, Made, IsCFault, IsScriptFault, unread, unfit, ScriptFor, IsRun, RanC, Written, Wrote, Performed, Ran, Tells, Reported}
+use Rattle.ivoryc.specs.Modules.{IsNoModule}
+use Rattle.ivoryc.specs.Allowed.{Answer}
+use Rattle.ivoryc.specs.ModuleAnswers.{Emits, Checks, ListsSites, Measures, not_compiled, not_checked, not_listed}
+use Rattle.ivoryc.specs.RunAnswers.{RunsModule, RunsUnit}
+use Rattle.ivoryc.specs.Answers.{Given, TooLongFor, text_long, script_long, too_large, Comes, emitted, checked, listed, ran, run_too_long, c_ran, c_too_long, measured}
+use Rattle.ivoryc.specs.Promise.{ComesTo, IsCommand, Writes, Due, IsAnswered, files_named, files_due, two_due, Promise}
+use Rattle.ivoryc.specs.Steps.{LoadsAtMost, IsWhole, IsTooLong, Loaded, LoadsFor, LoadsBoth, AreWhole, IsScriptTooLong, BothLoaded, Wrote, Does, ComesOver, Performed, Ran, Tells, Reported}
+use Rattle.ivoryc.proofs.ModuleTexts.{no_form_where_long}
 use Rattle.ivoryc.proofs.Answered.{LoadsWell, promise_from}
+
+-- ---- from what came of texts to what the command comes to
+
+wrote : (Is So : Answer → Type 0) (Done : List ℕ → Type 0) → ((a : Answer) → Is a → So a) → Wrote Is Done → Wrote So Done
+wrote Is So Done so w = record { answer = w.answer; is = so w.answer w.is; bytes = w.bytes; allowed = w.allowed; done = w.done }
+
+pub does : (asked : Command) (store : Change StoreSeen) (out : Change SinkSeen) (r : Result (Unit {0}) Refusal) (Is : Answer → Type 0)
+    → ((a : Answer) → Is a → ComesOver store asked a) → Does Is out r → Performed asked store out r
+does asked store out (Ok done) Is so w = wrote Is (ComesOver store asked) (Took out) so w
+does asked store out (Err refusal.Words) Is so none = absurd none
+does asked store out (Err refusal.ReadFault) Is so none = absurd none
+does asked store out (Err refusal.WriteFault) Is so w = wrote Is (ComesOver store asked) (FailedAt out) so w
+does asked store out (Err refusal.Memory) Is so same = same
+does asked store out (Err (refusal.Input f)) Is so (is, same) = (so (answer_of f) is, same)
+
+-- ---- commands of one file
+
+pub one_load : (asked : Command) (store : Change StoreSeen) → files_named (Some asked) ≡ 1 → ((files : FileMap) → files_due files (Some asked) ≡ 1)
+    → LoadsAtMost 1 store → LoadsFor asked store
+one_load asked store named due most =
+    record {
+      most = record { loads = rw named most.loads; holds = most.holds; later = most.later };
+      due = λ files told. rw (due files) most.loads;
+    }
+
+unloaded : (asked : Command) (file : List ℕ) (store : Change StoreSeen) (out : Change SinkSeen) (r : Refusal)
+    → (IsTooLong file source_limit store → ComesOver store asked too_large) → Loaded file source_limit store (Err r) → Unchanged out → Performed asked store out (Err r)
+unloaded asked file store out refusal.Words long loaded same = absurd loaded
+unloaded asked file store out refusal.ReadFault long loaded same = (loaded, same)
+unloaded asked file store out refusal.WriteFault long loaded same = absurd loaded
+unloaded asked file store out refusal.Memory long loaded same = same
+unloaded asked file store out (refusal.Input input.TooLarge) long loaded same = (long loaded, same)
+unloaded asked file store out (refusal.Input (input.Module f)) long loaded same = absurd loaded
+unloaded asked file store out (refusal.Input (input.Rule b)) long loaded same = absurd loaded
+unloaded asked file store out (refusal.Input input.NotBuilt) long loaded same = absurd loaded
+unloaded asked file store out (refusal.Input (input.CText f)) long loaded same = absurd loaded
+unloaded asked file store out (refusal.Input (input.Script f)) long loaded same = absurd loaded
+
+-- a text that is too long is that of no module
+long_is_none : (file : List ℕ) (store : Change StoreSeen) (long : IsTooLong file source_limit store) → IsNoModule long.text status.TooLarge too_large_line
+long_is_none file store long = IsNoModule.too_long (Judged.too_long long.long)
 
 -- ---- `emit`
 
--- the unit's own text reads back as it
-is_compiled : (text : List ℕ) (u : CUnit) → IsUnitOf text u → IsCompiled text (unit_text (unit_of u))
-is_compiled text u is =
-    let Reads : List ℕ → Type 0 = λ bytes. ReadsBack (unit_of u) bytes T32 in
-    record {
-      core = is.core;
-      form = is.form;
-      unit = unit_of u;
-      reads_back = subst Reads is.compiled.reads_back.spelled.is is.compiled.reads_back;
-      shape = is.compiled.shape;
-      refines = is.compiled.refines;
-      only = λ v spells. texts_apart v (unit_of u) (unit_text (unit_of u)) spells (record { in_subset = is.compiled.reads_back.spelled.in_subset; is = refl });
-    }
-
--- what was made of a text that stands under the name tells what the command comes to
-emits_so : (file text : List ℕ) (store : Change StoreSeen) (f : InputFault) → StandsUnder store.before.holds file text → Made text (Err (refusal.Input f))
-    → Comes (StandsUnder store.before.holds) (Emit file) (answer_of f)
-emits_so file text store input.TooLarge stands made = too_long stands made
-emits_so file text store (input.Module f) stands made = at_fault stands made
-emits_so file text store input.NotBuilt stands made = not_built stands made
-emits_so file text store (input.CText f) stands made = absurd made
-emits_so file text store (input.Script f) stands made = absurd made
-
 pub emit_unloaded : (file : List ℕ) (store : Change StoreSeen) (out : Change SinkSeen) (r : Refusal) → Loaded file source_limit store (Err r) → Unchanged out
     → Performed (Emit file) store out (Err r)
-emit_unloaded file store out refusal.Words loaded same = absurd loaded
-emit_unloaded file store out refusal.ReadFault loaded same = (loaded, same)
-emit_unloaded file store out refusal.WriteFault loaded same = absurd loaded
-emit_unloaded file store out refusal.Memory loaded same = same
-emit_unloaded file store out (refusal.Input input.TooLarge) loaded same = (too_long loaded.stands (Judged.too_long loaded.long), same)
-emit_unloaded file store out (refusal.Input (input.Module f)) loaded same = absurd loaded
-emit_unloaded file store out (refusal.Input input.NotBuilt) loaded same = absurd loaded
-emit_unloaded file store out (refusal.Input (input.CText f)) loaded same = absurd loaded
-emit_unloaded file store out (refusal.Input (input.Script f)) loaded same = absurd loaded
+emit_unloaded file store out r =
+    unloaded (Emit file) file store out r (λ long. emitted long.stands (not_compiled (no_form_where_long long.text long.long) (long_is_none file store long)))
 
-pub emit_unmade : (file text seen : List ℕ) (store : Change StoreSeen) (out : Change SinkSeen) (r : Refusal) → IsWhole file source_limit store text
-    → seen ≡ text → Made seen (Err r) → Unchanged out → Performed (Emit file) store out (Err r)
-emit_unmade file text seen store out refusal.Words whole is made same = absurd made
-emit_unmade file text seen store out refusal.ReadFault whole is made same = absurd made
-emit_unmade file text seen store out refusal.WriteFault whole is made same = absurd made
-emit_unmade file text seen store out refusal.Memory whole is made same = same
-emit_unmade file text seen store out (refusal.Input f) whole is made same =
-    let Says : List ℕ → Type 0 = λ t. Made t (Err (refusal.Input f)) in
-    (emits_so file text store f whole.stands (subst Says is made), same)
+pub emit_does : (file text seen : List ℕ) (store : Change StoreSeen) (out : Change SinkSeen) (r : Result (Unit {0}) Refusal) → IsWhole file source_limit store text
+    → seen ≡ text → Does (Emits seen) out r → Performed (Emit file) store out r
+emit_does file text seen store out r whole same d =
+    let Over : List ℕ → Type 0 = λ t. Does (Emits t) out r in
+    does (Emit file) store out r (Emits text) (λ a is. emitted whole.stands is) (subst Over same d)
 
-has_text : (file text seen : List ℕ) (store : Change StoreSeen) (Done : List ℕ → Type 0) (u : CUnit) → IsWhole file source_limit store text → seen ≡ text
-    → IsUnitOf seen u → Done (unit_text (unit_of u)) → Wrote (Emit file) store Done
-has_text file text seen store Done u whole same is done =
-    let Says : List ℕ → Type 0 = λ t. IsUnitOf t u in
-    let unit : IsUnitOf text u = subst Says same is in
+-- ---- `check`
+
+pub check_unloaded : (file : List ℕ) (store : Change StoreSeen) (out : Change SinkSeen) (r : Refusal) → Loaded file source_limit store (Err r) → Unchanged out
+    → Performed (Check file) store out (Err r)
+check_unloaded file store out r = unloaded (Check file) file store out r (λ long. checked long.stands (not_checked (long_is_none file store long)))
+
+pub check_does : (file text seen : List ℕ) (store : Change StoreSeen) (out : Change SinkSeen) (r : Result (Unit {0}) Refusal) → IsWhole file source_limit store text
+    → seen ≡ text → Does (Checks seen) out r → Performed (Check file) store out r
+check_does file text seen store out r whole same d =
+    let Over : List ℕ → Type 0 = λ t. Does (Checks t) out r in
+    does (Check file) store out r (Checks text) (λ a is. checked whole.stands is) (subst Over same d)
+
+-- ---- `sites`
+
+pub sites_unloaded : (file : List ℕ) (store : Change StoreSeen) (out : Change SinkSeen) (r : Refusal) → Loaded file source_limit store (Err r) → Unchanged out
+    → Performed (Sites file) store out (Err r)
+sites_unloaded file store out r = unloaded (Sites file) file store out r (λ long. listed long.stands (not_listed (long_is_none file store long)))
+
+pub sites_does : (file text seen : List ℕ) (store : Change StoreSeen) (out : Change SinkSeen) (r : Result (Unit {0}) Refusal) → IsWhole file source_limit store text
+    → seen ≡ text → Does (ListsSites seen) out r → Performed (Sites file) store out r
+sites_does file text seen store out r whole same d =
+    let Over : List ℕ → Type 0 = λ t. Does (ListsSites t) out r in
+    does (Sites file) store out r (ListsSites text) (λ a is. listed whole.stands is) (subst Over same d)
+
+-- ---- commands of a file and a script
+
+too_long_for : (file : List ℕ) (most : ℕ) (script : List ℕ) (store : Change StoreSeen) → IsTooLong file most store ⊎ IsScriptTooLong file most script store
+    → TooLongFor (StandsUnder store.before.holds) file most script
+too_long_for file most script store (inl long) = text_long long.stands long.long
+too_long_for file most script store (inr long) = script_long long.whole.stands long.whole.short long.long.stands long.long.long
+
+given : (file : List ℕ) (most : ℕ) (script text said : List ℕ) (store : Change StoreSeen) → AreWhole file most script store (text, said)
+    → Given (StandsUnder store.before.holds) file most script text said
+given file most script text said store whole =
+    record { text_stands = whole.text_whole.stands; text_short = whole.text_whole.short; script_stands = whole.script_whole.stands; script_short = whole.script_whole.short }
+
+both_unloaded : (asked : Command) (file : List ℕ) (most : ℕ) (script : List ℕ) (store : Change StoreSeen) (out : Change SinkSeen) (r : Refusal)
+    → (TooLongFor (StandsUnder store.before.holds) file most script → ComesOver store asked too_large) → BothLoaded file most script store (Err r) → Unchanged out
+    → Performed asked store out (Err r)
+both_unloaded asked file most script store out refusal.Words long loaded same = absurd loaded
+both_unloaded asked file most script store out refusal.ReadFault long loaded same = (loaded, same)
+both_unloaded asked file most script store out refusal.WriteFault long loaded same = absurd loaded
+both_unloaded asked file most script store out refusal.Memory long loaded same = same
+both_unloaded asked file most script store out (refusal.Input input.TooLarge) long loaded same = (long (too_long_for file most script store loaded), same)
+both_unloaded asked file most script store out (refusal.Input (input.Module f)) long loaded same = absurd loaded
+both_unloaded asked file most script store out (refusal.Input (input.Rule b)) long loaded same = absurd loaded
+both_unloaded asked file most script store out (refusal.Input input.NotBuilt) long loaded same = absurd loaded
+both_unloaded asked file most script store out (refusal.Input (input.CText f)) long loaded same = absurd loaded
+both_unloaded asked file most script store out (refusal.Input (input.Script f)) long loaded same = absurd loaded
+
+due_of : (file : List ℕ) (most : ℕ) (files : FileMap) (x : Bool) → nat_lt most (length (text_of (files file))) ≡ x → (loads before : ℕ)
+    → (most < length (text_of (files file)) → loads ≤ before + 1) → loads ≤ before + 2 → loads ≤ before + (if x then 1 else 2)
+due_of file most files true is loads before one two = one (grind arith)
+due_of file most files false is loads before one two = two
+
+pub two_loads : (asked : Command) (file : List ℕ) (most : ℕ) (store : Change StoreSeen) → files_named (Some asked) ≡ 2
+    → ((files : FileMap) → files_due files (Some asked) ≡ two_due files most file) → LoadsBoth file most store → LoadsFor asked store
+two_loads asked file most store named due both =
     record {
-      answer = Compiles text;
-      comes = compiled whole.stands unit.form;
-      bytes = unit_text (unit_of u);
-      allowed = is_compiled text u unit;
-      done = done;
+      most = record { loads = rw named both.two.loads; holds = both.two.holds; later = both.two.later };
+      due = λ files told.
+          rw (due files) (due_of file most files (nat_lt most (length (text_of (files file)))) refl store.after.loads store.before.loads (both.due files told) both.two.loads);
     }
 
-pub emit_written : (file text seen : List ℕ) (store : Change StoreSeen) (out : Change SinkSeen) (u : CUnit) (r : Result (Unit {0}) Refusal)
-    → IsWhole file source_limit store text → seen ≡ text → IsUnitOf seen u → Written (unit_text (unit_of u)) out r → Performed (Emit file) store out r
-emit_written file text seen store out u (Ok done) whole same is written = has_text file text seen store (Took out) u whole same is written
-emit_written file text seen store out u (Err refusal.Words) whole same is written = absurd written
-emit_written file text seen store out u (Err refusal.ReadFault) whole same is written = absurd written
-emit_written file text seen store out u (Err refusal.WriteFault) whole same is written = has_text file text seen store (FailedAt out) u whole same is written
-emit_written file text seen store out u (Err refusal.Memory) whole same is written = written
-emit_written file text seen store out u (Err (refusal.Input f)) whole same is written = absurd written
+-- ---- `run`
 
-pub emit_loads : (file : List ℕ) (store : Change StoreSeen) → LoadsAtMost 1 store → LoadsFor (Emit file) store
-emit_loads file store most = record { most = most; due = λ files told. most.loads }
+pub run_unloaded : (file script : List ℕ) (n : ℕ) (store : Change StoreSeen) (out : Change SinkSeen) (r : Refusal)
+    → BothLoaded file source_limit script store (Err r) → Unchanged out → Performed (Run file script n) store out (Err r)
+run_unloaded file script n store out r = both_unloaded (Run file script n) file source_limit script store out r (λ long. run_too_long long)
+
+pub run_does : (file script text said seen heard : List ℕ) (n : ℕ) (store : Change StoreSeen) (out : Change SinkSeen) (r : Result (Unit {0}) Refusal)
+    → AreWhole file source_limit script store (text, said) → seen ≡ text → heard ≡ said → Does (RunsModule seen heard n) out r
+    → Performed (Run file script n) store out r
+run_does file script text said seen heard n store out r whole same alike d =
+    let Over : List ℕ → Type 0 = λ t. Does (RunsModule t heard n) out r in
+    let By : List ℕ → Type 0 = λ t. Does (RunsModule text t n) out r in
+    does (Run file script n) store out r (RunsModule text said n) (λ a is. ran (given file source_limit script text said store whole) is) (subst By alike (subst Over same d))
 
 -- ---- `crun`
 
-given : (file script text said : List ℕ) (store : Change StoreSeen) → AreWhole file script store (text, said)
-    → Given (StandsUnder store.before.holds) file script text said
-given file script text said store whole =
-    record { text_stands = whole.text_whole.stands; text_short = whole.text_whole.short; script_stands = whole.script_whole.stands; script_short = whole.script_whole.short }
+pub crun_unloaded : (file script : List ℕ) (n : ℕ) (store : Change StoreSeen) (out : Change SinkSeen) (r : Refusal)
+    → BothLoaded file text_limit script store (Err r) → Unchanged out → Performed (CRun file script n) store out (Err r)
+crun_unloaded file script n store out r = both_unloaded (CRun file script n) file text_limit script store out r (λ long. c_too_long long)
 
-c_faulty : (file script text said : List ℕ) (n : ℕ) (store : Change StoreSeen) (f : CTextFault) → AreWhole file script store (text, said) → IsCFault text f
-    → Comes (StandsUnder store.before.holds) (CRun file script n) (answer_of (input.CText f))
-c_faulty file script text said n store f whole is =
-    let Told : CTextFault → Type 0 = λ g. Comes (StandsUnder store.before.holds) (CRun file script n) (answer_of (input.CText g)) in
-    subst Told (sym is.at) (c_at_fault is.fault (given file script text said store whole) is.is)
+pub crun_does : (file script text said seen heard : List ℕ) (n : ℕ) (store : Change StoreSeen) (out : Change SinkSeen) (r : Result (Unit {0}) Refusal)
+    → AreWhole file text_limit script store (text, said) → seen ≡ text → heard ≡ said → Does (RunsUnit seen heard n) out r
+    → Performed (CRun file script n) store out r
+crun_does file script text said seen heard n store out r whole same alike d =
+    let Over : List ℕ → Type 0 = λ t. Does (RunsUnit t heard n) out r in
+    let By : List ℕ → Type 0 = λ t. Does (RunsUnit text t n) out r in
+    does (CRun file script n) store out r (RunsUnit text said n) (λ a is. c_ran (given file text_limit script text said store whole) is) (subst By alike (subst Over same d))
 
-unfit_so : (file script text said : List ℕ) (n : ℕ) (store : Change StoreSeen) (f : ScriptFault) (u : TranslationUnit)
-    → AreWhole file script store (text, said) → ReadsBack u text T32 → IsScriptFault (c_exports u) said f
-    → Comes (StandsUnder store.before.holds) (CRun file script n) (answer_of (input.Script f))
-unfit_so file script text said n store f u whole back (unread says) = script_unread (given file script text said store whole) back says
-unfit_so file script text said n store f u whole back (unfit says not) = script_unfit (given file script text said store whole) back says not
+-- ---- `big`
 
-runs_of : (file script text said : List ℕ) (n : ℕ) (store : Change StoreSeen) (Done : List ℕ → Type 0) → AreWhole file script store (text, said)
-    → IsRun text said n Done → Wrote (CRun file script n) store Done
-runs_of file script text said n store Done whole run =
-    record {
-      answer = Gives (report (run_c run.unit T32 run.says n));
-      comes = ran (given file script text said store whole) run.back run.script.says run.script.fits;
-      bytes = report (run_c run.unit T32 run.says n);
-      allowed = refl;
-      done = run.done;
-    }
+pub big_performed : (k : ℕ) (store : Change StoreSeen) (out : Change SinkSeen) (r : Result (Unit {0}) Refusal) → Does (Measures k) out r → Performed (Big k) store out r
+big_performed k store out r = does (Big k) store out r (Measures k) (λ a is. measured is)
 
--- a script that does not read, or does not fit, before anything is run
-pub script_refused : (text said : List ℕ) (n : ℕ) (out : Change SinkSeen) (u : TranslationUnit) (r : Refusal) → ReadsBack u text T32
-    → ScriptFor (c_exports u) said (Err r) → Unchanged out → RanC text said n out (Err r)
-script_refused text said n out u refusal.Words back is same = absurd is
-script_refused text said n out u refusal.ReadFault back is same = absurd is
-script_refused text said n out u refusal.WriteFault back is same = absurd is
-script_refused text said n out u refusal.Memory back is same = same
-script_refused text said n out u (refusal.Input input.TooLarge) back is same = absurd is
-script_refused text said n out u (refusal.Input (input.Module f)) back is same = absurd is
-script_refused text said n out u (refusal.Input input.NotBuilt) back is same = absurd is
-script_refused text said n out u (refusal.Input (input.CText f)) back is same = absurd is
-script_refused text said n out u (refusal.Input (input.Script f)) back is same = (record { unit = u; back = back; is = is }, same)
-
-texts_ran : (file script text said : List ℕ) (n : ℕ) (store : Change StoreSeen) (out : Change SinkSeen) (r : Result (Unit {0}) Refusal)
-    → AreWhole file script store (text, said) → RanC text said n out r → Performed (CRun file script n) store out r
-texts_ran file script text said n store out (Ok done) whole run = runs_of file script text said n store (Took out) whole run
-texts_ran file script text said n store out (Err refusal.Words) whole run = absurd run
-texts_ran file script text said n store out (Err refusal.ReadFault) whole run = absurd run
-texts_ran file script text said n store out (Err refusal.WriteFault) whole run = runs_of file script text said n store (FailedAt out) whole run
-texts_ran file script text said n store out (Err refusal.Memory) whole run = run
-texts_ran file script text said n store out (Err (refusal.Input input.TooLarge)) whole run = absurd run
-texts_ran file script text said n store out (Err (refusal.Input (input.Module f))) whole run = absurd run
-texts_ran file script text said n store out (Err (refusal.Input input.NotBuilt)) whole run = absurd run
-texts_ran file script text said n store out (Err (refusal.Input (input.CText f))) whole run = (c_faulty file script text said n store f whole run.0, run.1)
-texts_ran file script text said n store out (Err (refusal.Input (input.Script f))) whole run =
-    (unfit_so file script text said n store f run.0.unit whole run.0.back run.0.is, run.1)
-
-pub crun_ran : (file script text said seen heard : List ℕ) (n : ℕ) (store : Change StoreSeen) (out : Change SinkSeen) (r : Result (Unit {0}) Refusal)
-    → AreWhole file script store (text, said) → seen ≡ text → heard ≡ said → RanC seen heard n out r → Performed (CRun file script n) store out r
-crun_ran file script text said seen heard n store out r whole same alike run =
-    let Over : List ℕ → Type 0 = λ t. RanC t heard n out r in
-    let By : List ℕ → Type 0 = λ t. RanC text t n out r in
-    texts_ran file script text said n store out r whole (subst By alike (subst Over same run))
-
-too_long_so : (file script : List ℕ) (n : ℕ) (store : Change StoreSeen) → IsTooLong file text_limit store ⊎ IsScriptTooLong file script store
-    → Comes (StandsUnder store.before.holds) (CRun file script n) (answer_of input.TooLarge)
-too_long_so file script n store (inl long) = c_too_long long.stands long.long
-too_long_so file script n store (inr long) = script_too_long long.whole.stands long.whole.short long.long.stands long.long.long
-
-pub crun_unloaded : (file script : List ℕ) (n : ℕ) (store : Change StoreSeen) (out : Change SinkSeen) (r : Refusal) → BothLoaded file script store (Err r)
-    → Unchanged out → Performed (CRun file script n) store out (Err r)
-crun_unloaded file script n store out refusal.Words loaded same = absurd loaded
-crun_unloaded file script n store out refusal.ReadFault loaded same = (loaded, same)
-crun_unloaded file script n store out refusal.WriteFault loaded same = absurd loaded
-crun_unloaded file script n store out refusal.Memory loaded same = same
-crun_unloaded file script n store out (refusal.Input input.TooLarge) loaded same = (too_long_so file script n store loaded, same)
-crun_unloaded file script n store out (refusal.Input (input.Module f)) loaded same = absurd loaded
-crun_unloaded file script n store out (refusal.Input input.NotBuilt) loaded same = absurd loaded
-crun_unloaded file script n store out (refusal.Input (input.CText f)) loaded same = absurd loaded
-crun_unloaded file script n store out (refusal.Input (input.Script f)) loaded same = absurd loaded
-
-due_of : (file script : List ℕ) (n : ℕ) (files : FileMap) (x : Bool) → nat_lt text_limit (length (text_of (files file))) ≡ x → (loads before : ℕ)
-    → (text_limit < length (text_of (files file)) → loads ≤ before + 1) → loads ≤ before + 2 → loads ≤ before + (if x then 1 else 2)
-due_of file script n files true is loads before one two = one (grind arith)
-due_of file script n files false is loads before one two = two
-
-pub crun_loads : (file script : List ℕ) (n : ℕ) (store : Change StoreSeen) → LoadsBoth file store → LoadsFor (CRun file script n) store
-crun_loads file script n store both =
-    record {
-      most = both.most;
-      due = λ files told.
-          due_of file script n files (nat_lt text_limit (length (text_of (files file)))) refl store.after.loads store.before.loads
-          (both.due files told) both.most.loads;
-    }
+pub big_loads : (k : ℕ) (seen : StoreSeen) → LoadsFor (Big k) (record { before = seen; after = seen })
+big_loads k seen = record { most = record { loads = omega arith; holds = refl; later = omega arith }; due = λ files told. omega arith }
 
 -- ---- from a command's answer to the call's
 
@@ -228,12 +208,13 @@ memory_answered c out (is, err) = answered c status.Memory is (record { out = ou
 input_where : (c : Call) (f : InputFault) → ComesTo c (answer_of f) → Unchanged c.out → Took c.err (line_of f) → IsAnswered c (status_of f)
 input_where c input.TooLarge p out err = record { line = _; comes_to = p; out = out; err = err }
 input_where c (input.Module f) p out err = record { line = _; comes_to = p; out = out; err = err }
+input_where c (input.Rule b) p out err = record { line = _; comes_to = p; out = out; err = err }
 input_where c input.NotBuilt p out err = record { line = _; comes_to = p; out = out; err = err }
 input_where c (input.CText f) p out err = record { line = _; comes_to = p; out = out; err = err }
 input_where c (input.Script f) p out err = record { line = _; comes_to = p; out = out; err = err }
 
-writes : (c : Call) (asked : Command) (Done : List ℕ → Type 0) → command c.words ≡ Some asked → (w : Wrote asked c.store Done) → Writes c w.bytes
-writes c asked Done is w = record { answer = w.answer; comes_to = record { asked = asked; is = is; comes = w.comes }; allowed = w.allowed }
+writes : (c : Call) (asked : Command) (Done : List ℕ → Type 0) → command c.words ≡ Some asked → (w : Wrote (ComesOver c.store asked) Done) → Writes c w.bytes
+writes c asked Done is w = record { answer = w.answer; comes_to = record { asked = asked; is = is; comes = w.is }; allowed = w.allowed }
 
 command_answered : (c : Call) (r : Result (Unit {0}) Refusal) (asked : Command) → command c.words ≡ Some asked → Performed asked c.store c.out r
     → Ends r c.status c.err → IsAnswered c c.status

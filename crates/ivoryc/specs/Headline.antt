@@ -10,6 +10,7 @@ use Rattle.c_text.specs.ReadsBack.{Spells, ReadsBack}
 use Rattle.c_lower.specs.Shape.{Shape}
 use Rattle.c_lower.specs.Refines.{Refines}
 use Rattle.module_text.specs.Verdicts.{Reads, Judged}
+use Rattle.ivoryc.specs.Modules.{IsWellTyped}
 
 -- ---- modules that are compiled so far
 
@@ -19,11 +20,14 @@ pub record FirstForm (text : List ℕ) (core : FirstModule) : Type 0 where
   pub read : Judged text (Reads tree)
   pub stands : Stands (module_of tree) core
 
--- the text of a tree that stands for no such module
+-- the text of no such module
+abbrev pub IsOfNoFirstForm : List ℕ → Type 0
+IsOfNoFirstForm text = (core : FirstModule) → ¬ FirstForm text core
+
+-- the text of a well typed module, but of no such one
 pub record IsUnbuilt (text : List ℕ) : Type 0 where
-  pub tree : Module
-  pub read : Judged text (Reads tree)
-  pub none : (core : FirstModule) → ¬ Stands (module_of tree) core
+  pub typed : IsWellTyped text
+  pub none : IsOfNoFirstForm text
 
 -- ---- the headline: C text that does what a module text says
 

@@ -2,7 +2,11 @@ pub mod Commands
 pub mod Texts
 pub mod Statuses
 pub mod Calls
+pub mod Modules
 pub mod Headline
+pub mod Allowed
+pub mod RunAnswers
+pub mod ModuleAnswers
 pub mod Answers
 pub mod Causes
 pub mod Promise

@@ -1,15 +1,17 @@
 -- What each call of the program promises: why it answered its status, what it wrote, and which statuses it must answer.
 use Rattle.std.specs.Prelude.{◌≡◌, ℕ, ◌+◌, ◌≤◌, ◌⊎◌, nat_lt, if◌then◌else◌, List, length, Option, Some, None}
 use Rattle.iv_base.specs.Stores.{FileMap, text_of}
+use Rattle.ivory_lexer.specs.Limits.{source_limit}
 use Rattle.c_reader.specs.Answers.{text_limit}
 use Rattle.ivoryc.specs.declared.command.Command.{Command}
-use Rattle.ivoryc.specs.declared.command.Command.TheVariants.{Emit, CRun}
+use Rattle.ivoryc.specs.declared.command.Command.TheVariants.{Emit, Check, Sites, Run, CRun, Big}
 use Rattle.ivoryc.specs.declared.status.Status.{Status}
 use Rattle.ivoryc.specs.declared.status.Status.TheVariants as status
 use Rattle.ivoryc.specs.Commands.{command}
 use Rattle.ivoryc.specs.Texts.{usage_line, read_fault_line, memory_line}
 use Rattle.ivoryc.specs.Calls.{StoreSeen, SinkSeen, Change, Call, Unchanged, Unread, Unwritten, Took, FailedAt, StandsUnder}
-use Rattle.ivoryc.specs.Answers.{Answer, Compiles, Gives, Refuses, Allows, status_of, Comes}
+use Rattle.ivoryc.specs.Allowed.{Answer, Compiles, Gives, Refuses, Allows, status_of}
+use Rattle.ivoryc.specs.Answers.{Comes}
 
 -- ---- what the words ask for
 
@@ -111,13 +113,25 @@ output_for c (Refuses s line) = c.err
 abbrev pub files_named : Option Command → ℕ
 files_named None = 0
 files_named (Some (Emit file)) = 1
+files_named (Some (Check file)) = 1
+files_named (Some (Sites file)) = 1
+files_named (Some (Run file script n)) = 2
 files_named (Some (CRun file script n)) = 2
+files_named (Some (Big k)) = 0
 
--- how many of them must be loaded before the first refusal: no second file where the first is too long
+-- of a file with a limit and then a script: no script where the file is too long
+abbrev pub two_due : FileMap → (most : ℕ) (file : List ℕ) → ℕ
+two_due files most file = if nat_lt most (length (text_of (files file))) then 1 else 2
+
+-- how many of them must be loaded before the first refusal
 abbrev pub files_due : FileMap → Option Command → ℕ
 files_due files None = 0
 files_due files (Some (Emit file)) = 1
-files_due files (Some (CRun file script n)) = if nat_lt text_limit (length (text_of (files file))) then 1 else 2
+files_due files (Some (Check file)) = 1
+files_due files (Some (Sites file)) = 1
+files_due files (Some (Run file script n)) = two_due files source_limit file
+files_due files (Some (CRun file script n)) = two_due files text_limit file
+files_due files (Some (Big k)) = 0
 
 -- each status comes with its cause; but for a failure of what it needs, and for want of memory, each cause comes with its status
 pub record Promise (c : Call) : Type 0 where

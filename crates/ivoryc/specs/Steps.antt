@@ -1,27 +1,21 @@
 -- What the steps of a call answer to one another: the loads, the reading, the compilation or the run, the writing, and the report of a refusal.
-use Rattle.std.specs.Prelude.{◌≡◌, ℕ, ◌+◌, ◌≤◌, ◌<◌, ◌⊎◌, List, length, Some, None, Result, Ok, Err}
+use Rattle.std.specs.Prelude.{◌≡◌, ℕ, ◌+◌, ◌≤◌, ◌<◌, ◌⊎◌, List, length, Option, Some, None, Result, Ok, Err}
 use Rattle.iv_base.specs.Stores.{FileMap, text_of}
 use Rattle.run_records.specs.Scripts.{Fits}
 use Rattle.run_records.specs.declared.Export.{Export}
 use Rattle.run_records.specs.declared.Script.{Script}
 use Rattle.iv_script.specs.Fit.{fit_of}
-use Rattle.iv_script.specs.Report.{report}
 use Rattle.iv_script.specs.ScriptText.{script_limit, script_of}
 use Rattle.iv_script.specs.declared.ScriptFault.{ScriptFault}
 use Rattle.first_form.specs.declared.FirstModule.{FirstModule}
+use Rattle.core_tree.specs.Cores.{Parts, core_of}
 use Rattle.c_ast.specs.declared.CUnit.{CUnit}
 use Rattle.c_ast.specs.declared.Target.TheVariants.{T32}
-use Rattle.c_ast.specs.Exports.{c_exports}
-use Rattle.c_ast.specs.Syntax.{TranslationUnit}
 use Rattle.c_ast.specs.View.{unit_of}
 use Rattle.c_text.specs.Faults.{HasFault}
 use Rattle.c_text.specs.ReadsBack.{ReadsBack}
 use Rattle.c_text.specs.declared.CFault.{CFault}
-use Rattle.c_meaning.specs.Runs.{run_c}
-use Rattle.c_reader.specs.Answers.{text_limit}
 use Rattle.c_lower.specs.Compiled.{Compiled}
-use Rattle.module_text.specs.Lines.{fault_line}
-use Rattle.module_text.specs.Verdicts.{TooLong, Faulty, Judged}
 use Rattle.ivoryc.specs.declared.command.Command.{Command}
 use Rattle.ivoryc.specs.declared.c_fault.CTextFault.{CTextFault}
 use Rattle.ivoryc.specs.declared.input_fault.InputFault.TheVariants as input
@@ -29,13 +23,23 @@ use Rattle.ivoryc.specs.declared.refusal.Refusal.{Refusal}
 use Rattle.ivoryc.specs.declared.refusal.Refusal.TheVariants as refusal
 use Rattle.ivoryc.specs.declared.status.Status.{Status}
 use Rattle.ivoryc.specs.declared.status.Status.TheVariants as status
-use Rattle.ivoryc.specs.Commands.{command}
+use Rattle.ivoryc.specs.declared.command.Command.TheVariants.{Big}
+use Rattle.ivoryc.specs.Commands.{command, most_procedures}
 use Rattle.ivoryc.specs.Texts.{usage_line, read_fault_line, memory_line}
 use Rattle.ivoryc.specs.Causes.{placed, status_of, line_of, answer_of}
 use Rattle.ivoryc.specs.Calls.{StoreSeen, SinkSeen, Change, Unchanged, Unread, Took, FailedAt, StandsUnder}
-use Rattle.ivoryc.specs.Headline.{FirstForm, IsUnbuilt}
-use Rattle.ivoryc.specs.Answers.{Answer, Allows, Comes}
+use Rattle.ivoryc.specs.Modules.{IsWellTyped, StandsFor, IsNoModule}
+use Rattle.ivoryc.specs.Headline.{FirstForm, IsOfNoFirstForm, IsUnbuilt}
+use Rattle.ivoryc.specs.Allowed.{Answer, Allows}
+use Rattle.ivoryc.specs.Answers.{Comes}
 use Rattle.ivoryc.specs.Promise.{files_named, files_due}
+
+-- ---- commands
+
+-- a number of procedures is one that a generated module can have
+abbrev pub IsSized : Option Command → Type 0
+IsSized (Some (Big k)) = (1 ≤ k) × (k ≤ most_procedures)
+IsSized _ = Unit {0}
 
 -- ---- loads
 
@@ -70,27 +74,45 @@ pub record LoadsFor (asked : Command) (store : Change StoreSeen) : Type 0 where
   pub due : (files : FileMap) → store.before.holds ≡ Some files → store.after.loads ≤ store.before.loads + files_due files (Some asked)
 
 -- two loads, of which the second comes only where the first text is within its limit
-pub record LoadsBoth (file : List ℕ) (store : Change StoreSeen) : Type 0 where
-  pub most : LoadsAtMost 2 store
-  pub due : (files : FileMap) → store.before.holds ≡ Some files → text_limit < length (text_of (files file)) → store.after.loads ≤ store.before.loads + 1
+pub record LoadsBoth (file : List ℕ) (most : ℕ) (store : Change StoreSeen) : Type 0 where
+  pub two : LoadsAtMost 2 store
+  pub due : (files : FileMap) → store.before.holds ≡ Some files → most < length (text_of (files file)) → store.after.loads ≤ store.before.loads + 1
 
--- a C text and the text of a script
-pub record AreWhole (file script : List ℕ) (store : Change StoreSeen) (texts : List ℕ × List ℕ) : Type 0 where
-  pub text_whole : IsWhole file text_limit store texts.0
+-- a text and that of a script
+pub record AreWhole (file : List ℕ) (most : ℕ) (script : List ℕ) (store : Change StoreSeen) (texts : List ℕ × List ℕ) : Type 0 where
+  pub text_whole : IsWhole file most store texts.0
   pub script_whole : IsWhole script script_limit store texts.1
 
 -- the second is too long, and the first is not
-pub record IsScriptTooLong (file script : List ℕ) (store : Change StoreSeen) : Type 0 where
+pub record IsScriptTooLong (file : List ℕ) (most : ℕ) (script : List ℕ) (store : Change StoreSeen) : Type 0 where
   pub text : List ℕ
-  pub whole : IsWhole file text_limit store text
+  pub whole : IsWhole file most store text
   pub long : IsTooLong script script_limit store
 
-abbrev pub BothLoaded : (file script : List ℕ) → Change StoreSeen → Result (List ℕ × List ℕ) Refusal → Type 0
-BothLoaded file script store (Ok texts) = AreWhole file script store texts
-BothLoaded file script store (Err refusal.ReadFault) = Unread store
-BothLoaded file script store (Err refusal.Memory) = Unit {0}
-BothLoaded file script store (Err (refusal.Input input.TooLarge)) = IsTooLong file text_limit store ⊎ IsScriptTooLong file script store
-BothLoaded file script store (Err _) = ⊥
+abbrev pub BothLoaded : (file : List ℕ) (most : ℕ) (script : List ℕ) → Change StoreSeen → Result (List ℕ × List ℕ) Refusal → Type 0
+BothLoaded file most script store (Ok texts) = AreWhole file most script store texts
+BothLoaded file most script store (Err refusal.ReadFault) = Unread store
+BothLoaded file most script store (Err refusal.Memory) = Unit {0}
+BothLoaded file most script store (Err (refusal.Input input.TooLarge)) = IsTooLong file most store ⊎ IsScriptTooLong file most script store
+BothLoaded file most script store (Err _) = ⊥
+
+-- ---- module texts
+
+-- why a text is that of no well typed module
+abbrev pub NoModule : List ℕ → Refusal → Type 0
+NoModule text refusal.Memory = Unit {0}
+NoModule text (refusal.Input f) = IsNoModule text (status_of f) (line_of f)
+NoModule text _ = ⊥
+
+-- that of one, or why it is that of none
+abbrev pub Checked : List ℕ → Result (Unit {0}) Refusal → Type 0
+Checked text (Ok done) = IsWellTyped text
+Checked text (Err why) = NoModule text why
+
+-- with the core
+abbrev pub ReadCore : List ℕ → Result Parts Refusal → Type 0
+ReadCore text (Ok core) = StandsFor text (core_of core)
+ReadCore text (Err why) = NoModule text why
 
 -- ---- compilation
 
@@ -100,27 +122,18 @@ pub record IsUnitOf (text : List ℕ) (u : CUnit) : Type 0 where
   pub form : FirstForm text core
   pub compiled : Compiled core (unit_of u) T32
 
+-- why there is none
+abbrev pub NoUnit : List ℕ → Refusal → Type 0
+NoUnit text refusal.Memory = Unit {0}
+NoUnit text (refusal.Input input.NotBuilt) = IsUnbuilt text
+NoUnit text (refusal.Input f) = IsOfNoFirstForm text × IsNoModule text (status_of f) (line_of f)
+NoUnit text _ = ⊥
+
 abbrev pub Made : List ℕ → Result CUnit Refusal → Type 0
 Made text (Ok u) = IsUnitOf text u
-Made text (Err (refusal.Input input.TooLarge)) = Judged text TooLong
-Made text (Err (refusal.Input (input.Module f))) = Judged text (Faulty (fault_line f))
-Made text (Err (refusal.Input input.NotBuilt)) = IsUnbuilt text
-Made text (Err refusal.Memory) = Unit {0}
-Made text (Err _) = ⊥
+Made text (Err why) = NoUnit text why
 
--- ---- runs of C
-
--- a fault of a C text, at its line and column
-pub record IsCFault (text : List ℕ) (told : CTextFault) : Type 0 where
-  pub fault : CFault
-  pub is : HasFault T32 text fault
-  pub at : told ≡ placed text fault
-
-abbrev pub ReadC : List ℕ → Result CUnit Refusal → Type 0
-ReadC text (Ok u) = ReadsBack (unit_of u) text T32
-ReadC text (Err (refusal.Input (input.CText f))) = IsCFault text f
-ReadC text (Err refusal.Memory) = Unit {0}
-ReadC text (Err _) = ⊥
+-- ---- scripts
 
 -- a script that the text says and that fits
 pub record IsScript (exports : List Export) (said : List ℕ) (s : Script) : Type 0 where
@@ -138,27 +151,19 @@ ScriptFor exports said (Err (refusal.Input (input.Script f))) = IsScriptFault ex
 ScriptFor exports said (Err refusal.Memory) = Unit {0}
 ScriptFor exports said (Err _) = ⊥
 
--- the report of a run by the script that a text says, with what was done with it
-pub record IsRun (text said : List ℕ) (n : ℕ) (Done : List ℕ → Type 0) : Type 0 where
-  pub unit : TranslationUnit
-  pub back : ReadsBack unit text T32
-  pub says : Script
-  pub script : IsScript (c_exports unit) said says
-  pub done : Done (report (run_c unit T32 says n))
+-- ---- units of C
 
--- a script that the unit cannot be run by
-pub record IsUnfit (text said : List ℕ) (fault : ScriptFault) : Type 0 where
-  pub unit : TranslationUnit
-  pub back : ReadsBack unit text T32
-  pub is : IsScriptFault (c_exports unit) said fault
+-- a fault of a C text, at its line and column
+pub record IsCFault (text : List ℕ) (told : CTextFault) : Type 0 where
+  pub fault : CFault
+  pub is : HasFault T32 text fault
+  pub at : told ≡ placed text fault
 
-abbrev pub RanC : (text said : List ℕ) → ℕ → Change SinkSeen → Result (Unit {0}) Refusal → Type 0
-RanC text said n out (Ok done) = IsRun text said n (Took out)
-RanC text said n out (Err refusal.WriteFault) = IsRun text said n (FailedAt out)
-RanC text said n out (Err refusal.Memory) = Unchanged out
-RanC text said n out (Err (refusal.Input (input.CText f))) = IsCFault text f × Unchanged out
-RanC text said n out (Err (refusal.Input (input.Script f))) = IsUnfit text said f × Unchanged out
-RanC text said n out (Err _) = ⊥
+abbrev pub ReadC : List ℕ → Result CUnit Refusal → Type 0
+ReadC text (Ok u) = ReadsBack (unit_of u) text T32
+ReadC text (Err (refusal.Input (input.CText f))) = IsCFault text f
+ReadC text (Err refusal.Memory) = Unit {0}
+ReadC text (Err _) = ⊥
 
 -- ---- writing
 
@@ -169,23 +174,36 @@ Written text out (Err refusal.WriteFault) = FailedAt out text
 Written text out (Err refusal.Memory) = Unchanged out
 Written text out (Err _) = ⊥
 
--- ---- a command
+-- ---- what came of texts
 
--- bytes that the command is to write, with what was done to the output
-pub record Wrote (asked : Command) (store : Change StoreSeen) (Done : List ℕ → Type 0) : Type 0 where
+-- bytes that such an answer lets be written, with what was done to the output
+pub record Wrote (Is : Answer → Type 0) (Done : List ℕ → Type 0) : Type 0 where
   pub answer : Answer
-  pub comes : Comes (StandsUnder store.before.holds) asked answer
+  pub is : Is answer
   pub bytes : List ℕ
   pub allowed : Allows answer bytes
   pub done : Done bytes
 
+-- such an answer came, or want of memory, or a failure of the output
+abbrev pub Does : (Answer → Type 0) → Change SinkSeen → Result (Unit {0}) Refusal → Type 0
+Does Is out (Ok done) = Wrote Is (Took out)
+Does Is out (Err refusal.WriteFault) = Wrote Is (FailedAt out)
+Does Is out (Err refusal.Memory) = Unchanged out
+Does Is out (Err (refusal.Input fault)) = Is (answer_of fault) × Unchanged out
+Does Is out (Err _) = ⊥
+
+-- ---- a command
+
+abbrev pub ComesOver : Change StoreSeen → Command → Answer → Type 0
+ComesOver store asked a = Comes (StandsUnder store.before.holds) asked a
+
 abbrev pub Performed : Command → Change StoreSeen → Change SinkSeen → Result (Unit {0}) Refusal → Type 0
-Performed asked store out (Ok done) = Wrote asked store (Took out)
-Performed asked store out (Err refusal.WriteFault) = Wrote asked store (FailedAt out)
+Performed asked store out (Ok done) = Wrote (ComesOver store asked) (Took out)
+Performed asked store out (Err refusal.WriteFault) = Wrote (ComesOver store asked) (FailedAt out)
 Performed asked store out (Err refusal.Words) = ⊥
 Performed asked store out (Err refusal.ReadFault) = Unread store × Unchanged out
 Performed asked store out (Err refusal.Memory) = Unchanged out
-Performed asked store out (Err (refusal.Input fault)) = Comes (StandsUnder store.before.holds) asked (answer_of fault) × Unchanged out
+Performed asked store out (Err (refusal.Input fault)) = ComesOver store asked (answer_of fault) × Unchanged out
 
 -- ---- a call
 

@@ -1,11 +1,16 @@
+ghost use Rattle.std.specs.Prelude.{Some};
 ghost use Rattle.ivoryc.specs.Calls.{change_of, store_seen, sink_seen};
 ghost use Rattle.ivoryc.specs.Promise.{Promise};
-ghost use Rattle.ivoryc.specs.Steps.{LoadsFor, Performed, Ran};
+ghost use Rattle.ivoryc.specs.Steps.{IsSized, LoadsFor, Performed, Ran};
 
+use crate::big::big;
+use crate::check::check;
 use crate::command::{Command, words_of};
 use crate::crun::crun;
 use crate::emit::emit;
 use crate::refusal::{Refusal, report};
+use crate::run::run;
+use crate::sites::sites;
 use crate::status::Status;
 use iv_base::{Sink, Store};
 use iv_words::{Seq, Word};
@@ -30,14 +35,14 @@ pub fn ivoryc<S: Store, K: Sink, E: Sink>(
       err = change_of (sink_seen E.held E.taken E.faults) err.old err.new;
     }) }
 {
-    match run(alloc, words, store, out) {
+    match obey(alloc, words, store, out) {
         Ok(()) => Status::Done,
         Err(refusal) => report(refusal, err),
     }
 }
 
 /// Does what the words ask for, or answers why not.
-fn run<S: Store, K: Sink>(
+fn obey<S: Store, K: Sink>(
     alloc: Global,
     words: &Seq<Word>,
     store: &mut S,
@@ -58,11 +63,16 @@ fn perform<S: Store, K: Sink>(
     store: &mut S,
     out: &mut K,
 ) -> Result<(), Refusal>
+    requires { IsSized (Some command.now) }
     ensures loads { LoadsFor command.now (change_of (store_seen S.holds S.loads S.faults) store.old store.new) }
     ensures performed { Performed command.now (change_of (store_seen S.holds S.loads S.faults) store.old store.new) (change_of (sink_seen K.held K.taken K.faults) out.old out.new) result }
 {
     match command {
         Command::Emit(file) => emit(alloc, file, store, out),
+        Command::Check(file) => check(alloc, file, store, out),
+        Command::Sites(file) => sites(alloc, file, store, out),
+        Command::Run(file, script, steps) => run(alloc, file, script, *steps, store, out),
         Command::CRun(file, script, steps) => crun(alloc, file, script, *steps, store, out),
+        Command::Big(k) => big(alloc, *k, out),
     }
 }

@@ -1,28 +1,29 @@
 //! Runs of C texts.
 
 ghost use Rattle.std.specs.Prelude.{◌≤◌, length};
-ghost use Rattle.iv_script.specs.Report.{report};
 ghost use Rattle.iv_script.specs.ScriptText.{script_limit};
-ghost use Rattle.c_ast.specs.Exports.{c_exports};
 ghost use Rattle.c_ast.specs.View.{unit_of};
-ghost use Rattle.c_ast.specs.declared.Target.TheVariants.{T32 as t32};
-ghost use Rattle.c_meaning.specs.Runs.{run_c};
 ghost use Rattle.c_reader.specs.Answers.{text_limit};
 ghost use Rattle.ivoryc.specs.Calls.{change_of, store_seen, sink_seen};
-ghost use Rattle.ivoryc.specs.Steps.{LoadsFor, Performed, RanC, ReadC, ScriptFor, Written};
+ghost use Rattle.ivoryc.specs.RunAnswers.{RunsUnit, unit_report};
+ghost use Rattle.ivoryc.specs.Steps.{LoadsFor, Performed, ReadC, Does, Written};
 ghost use Rattle.ivoryc.specs.declared.command.Command.TheVariants.{CRun};
 
 use crate::c_fault::CTextFault;
 use crate::input_fault::InputFault;
 use crate::load::load_both;
 use crate::refusal::Refusal;
+use crate::script::script_for;
 use c_ast::{CUnit, Target, c_exports};
 use c_reader::{ReadFault, read_unit};
 use c_run::{RunError, prepare_c};
 use iv_base::{Sink, Store};
-use iv_script::{Script, fit_script, read_script};
+use iv_script::Script;
 use iv_words::Word;
 use std::alloc::Global;
+
+/// The greatest number of bytes of a C text.
+const C_LIMIT: u64 = 268_435_456;
 
 /// Writes the report of a run of the C text in a file, by the script in another, within so many steps.
 pub fn crun<S: Store, K: Sink>(
@@ -36,7 +37,7 @@ pub fn crun<S: Store, K: Sink>(
     ensures loads { LoadsFor (CRun file.now script.now steps) (change_of (store_seen S.holds S.loads S.faults) store.old store.new) }
     ensures performed { Performed (CRun file.now script.now steps) (change_of (store_seen S.holds S.loads S.faults) store.old store.new) (change_of (sink_seen K.held K.taken K.faults) out.old out.new) result }
 {
-    let (text, said) = load_both(alloc, file, script, store)?;
+    let (text, said) = load_both(alloc, file, C_LIMIT, script, store)?;
     run_texts(alloc, text.as_slice(), said.as_slice(), steps, out)
 }
 
@@ -50,10 +51,11 @@ fn run_texts<K: Sink>(
 ) -> Result<(), Refusal>
     requires text { length text.now ≤ text_limit }
     requires script { length said.now ≤ script_limit }
-    ensures { RanC text.now said.now steps (change_of (sink_seen K.held K.taken K.faults) out.old out.new) result }
+    ensures { Does (RunsUnit text.now said.now steps) (change_of (sink_seen K.held K.taken K.faults) out.old out.new) result }
 {
     let unit = read_c(alloc, text)?;
-    let script = script_for(alloc, &unit, said)?;
+    let exports = c_exports(alloc, &unit)?;
+    let script = script_for(alloc, &exports, said)?;
     run_unit(alloc, unit, &script, steps, out)
 }
 
@@ -72,19 +74,6 @@ fn read_c(alloc: Global, text: &[u8]) -> Result<CUnit, Refusal>
     }
 }
 
-/// The script that a text says, where it fits a unit.
-fn script_for(alloc: Global, unit: &CUnit, said: &[u8]) -> Result<Script, Refusal>
-    requires { length said.now ≤ script_limit }
-    ensures { ScriptFor (c_exports (unit_of unit.now)) said.now result }
-{
-    let script = read_script(alloc, said)?;
-    let exports = c_exports(alloc, unit)?;
-    match fit_script(&script, &exports) {
-        Ok(()) => Ok(script),
-        Err(fault) => Err(Refusal::Input(InputFault::Script(fault))),
-    }
-}
-
 /// Writes the report of a run of a unit by a script.
 fn run_unit<K: Sink>(
     alloc: Global,
@@ -93,7 +82,7 @@ fn run_unit<K: Sink>(
     steps: u64,
     out: &mut K,
 ) -> Result<(), Refusal>
-    ensures { Written (report (run_c (unit_of unit) t32 script.now steps)) (change_of (sink_seen K.held K.taken K.faults) out.old out.new) result }
+    ensures { Written (unit_report (unit_of unit) steps script.now) (change_of (sink_seen K.held K.taken K.faults) out.old out.new) result }
 {
     let mut ready = prepare_c(alloc, unit, Target::T32)?;
     match ready.run(alloc, script, steps, out) {

@@ -6,6 +6,7 @@ ghost use Rattle.ivoryc.specs.Steps.{Tells};
 ghost use Rattle.module_text.specs.Lines.{fault_line};
 ghost use Rattle.ivoryc.specs.declared.status.Status.TheVariants.{Refused as refused};
 
+use crate::broken_rule::BrokenRule;
 use crate::c_fault::CTextFault;
 use crate::script_fault::script_text;
 use crate::status::Status;
@@ -18,8 +19,10 @@ use module_text::Fault;
 pub enum InputFault {
     /// It is longer than its limit.
     TooLarge,
-    /// The module text has a fault.
+    /// The module text has a fault of its tokens or its grammar.
     Module(Fault),
+    /// The module breaks a rule.
+    Rule(BrokenRule),
     /// The module is not of a form that is built yet.
     NotBuilt,
     /// The C text has a fault.
@@ -35,6 +38,7 @@ pub fn tell_input<E: Sink>(fault: InputFault, err: &mut E) -> Status
     match fault {
         InputFault::TooLarge => tell(b"too large\n", Status::TooLarge, err),
         InputFault::Module(fault) => tell_module(fault, err),
+        InputFault::Rule(broken) => tell(broken.text().as_bytes(), Status::Refused, err),
         InputFault::NotBuilt => tell(b"not built yet\n", Status::NotBuilt, err),
         InputFault::CText(fault) => tell(fault.text().as_bytes(), Status::Refused, err),
         InputFault::Script(fault) => tell(script_text(fault).as_bytes(), Status::Script, err),

@@ -10,9 +10,6 @@ use iv_base::Store;
 use iv_words::Word;
 use std::alloc::Global;
 
-/// The greatest number of bytes of a C text.
-const C_LIMIT: u64 = 268_435_456;
-
 /// The greatest number of bytes of a script.
 const SCRIPT_LIMIT: u64 = 1_048_576;
 
@@ -35,17 +32,19 @@ pub fn load<S: Store>(
     Ok(text)
 }
 
-/// A C text and the text of a script.
+/// A text that has at most so many bytes, and that of a script.
 pub fn load_both<S: Store>(
     alloc: Global,
     file: &Word,
+    limit: u64,
     script: &Word,
     store: &mut S,
 ) -> Result<(Word, Word), Refusal>
-    ensures loads { LoadsBoth file.now (change_of (store_seen S.holds S.loads S.faults) store.old store.new) }
-    ensures loaded { BothLoaded file.now script.now (change_of (store_seen S.holds S.loads S.faults) store.old store.new) result }
+    requires { limit < 2 ^ 32 }
+    ensures loads { LoadsBoth file.now limit (change_of (store_seen S.holds S.loads S.faults) store.old store.new) }
+    ensures loaded { BothLoaded file.now limit script.now (change_of (store_seen S.holds S.loads S.faults) store.old store.new) result }
 {
-    let text = load(alloc, file, C_LIMIT, store)?;
+    let text = load(alloc, file, limit, store)?;
     let said = load(alloc, script, SCRIPT_LIMIT, store)?;
     Ok((text, said))
 }

@@ -6,15 +6,24 @@ ghost use Rattle.std.specs.IoError.{error_kind};
 ghost use Rattle.std.specs.declared.io.ErrorKind.TheVariants.{OutOfMemory};
 ghost use Rattle.ivoryc.specs.Statuses as statuses;
 
+mod big;
+mod broken_rule;
 mod c_fault;
 mod call;
+mod check;
 mod command;
 mod crun;
 mod emit;
 mod input_fault;
 mod load;
+mod output;
+mod place;
+mod read;
 mod refusal;
+mod run;
+mod script;
 mod script_fault;
+mod sites;
 mod status;
 
 pub use crate::call::ivoryc;

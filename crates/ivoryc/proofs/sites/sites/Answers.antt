@@ -1,0 +1,21 @@
+use Rattle.std.proofs.Common.{◌≡◌, ◌∙◌, ap, Err, refl}
+use Rattle.std.proofs.lemmas.Result.{err_from_is_err_and}
+use Rattle.ivoryc.specs.declared.command.Command.TheVariants.{Sites}
+use Rattle.ivoryc.proofs.Steps.{one_load, sites_unloaded, sites_does}
+use Rattle.ivoryc.proofs.sites.sites.Goals as goal
+
+pub returns-in_err-text-clause-loads : goal.returns-in_err-text-clause-loads
+returns-in_err-text-clause-loads g c = one_load (Sites c.args.file.now) _ refl (λ files. refl) c.in_err-text.ensures.once
+
+pub returns-in_err-text-clause-performed : goal.returns-in_err-text-clause-performed
+returns-in_err-text-clause-performed g c =
+    let p = err_from_is_err_and c.from_residual.result c.from_residual.ensures.1 in
+    let e : c.from_residual.result ≡ Err c.in_err-text.field-0.0 = p.1 ∙ ap Err p.2 in
+    rw e (sites_unloaded c.args.file.now _ _ c.in_err-text.field-0.0 c.in_err-text.ensures.loaded refl)
+
+pub returns-clause-loads : goal.returns-clause-loads
+returns-clause-loads g c = one_load (Sites c.args.file.now) _ refl (λ files. refl) c.in_ok-text.ensures.once
+
+pub returns-clause-performed : goal.returns-clause-performed
+returns-clause-performed g c =
+    sites_does c.args.file.now c.in_ok-text.text c.as_slice.result.now _ _ c.list_sites.result c.in_ok-text.ensures.loaded c.as_slice.ensures c.list_sites.ensures

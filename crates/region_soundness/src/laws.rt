@@ -1,0 +1,13 @@
+//! Region soundness: each name in scope has a value of its type, and so no run ends undefined.
+
+ghost use Rattle.region_soundness.specs.Laws.{FirstStatesAreScoped, RunsAreDefined};
+
+/// Before the first entry call each area holds values of its type.
+pub fn first_states_are_scoped()
+    ensures { FirstStatesAreScoped }
+{}
+
+/// No run of a script that fits ends undefined, whatever its number of steps.
+pub fn runs_are_defined()
+    ensures { RunsAreDefined }
+{}

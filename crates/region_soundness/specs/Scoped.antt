@@ -63,8 +63,8 @@ pub record FrameFits (core : ModuleCore) (areas : Areas) (a : Activation) (frame
 abbrev pub CallersFit : ModuleCore → Areas → (first : ℕ) → List Activation → List Frame → Type 0
 CallersFit core areas first [] [] = Unit {0}
 CallersFit core areas first [] (f ∷ fs) = ⊥
-CallersFit core areas first (a ∷ as) [] = ⊥
-CallersFit core areas first (a ∷ as) (f ∷ fs) = FrameFits core (take first areas) a f × CallersFit core areas f.first as fs
+CallersFit core areas first (a ∷ more) [] = ⊥
+CallersFit core areas first (a ∷ more) (f ∷ fs) = FrameFits core (take first areas) a f × CallersFit core areas f.first more fs
 
 -- The state is scoped, where these calls are open.
 pub record Scoped (core : ModuleCore) (own : Activation) (callers : List Activation) (s : State) : Type 0 where

@@ -67,8 +67,8 @@ CallersFit core areas first (a ∷ more) [] = ⊥
 CallersFit core areas first (a ∷ more) (f ∷ fs) = FrameFits core (take first areas) a f × CallersFit core areas f.first more fs
 
 -- The state is scoped, where these calls are open.
-pub record Scoped (core : ModuleCore) (own : Activation) (callers : List Activation) (s : State) : Type 0 where
+pub record Scoped (core : ModuleCore) (own : Activation) (waiting : List Activation) (s : State) : Type 0 where
   pub areas : AreasFit core.structs s.areas
   pub globals : GlobalsFirst core s.areas
   pub frame : FrameFits core s.areas own s.frames.own
-  pub callers : CallersFit core s.areas s.frames.own.first callers s.frames.callers
+  pub callers : CallersFit core s.areas s.frames.own.first waiting s.frames.callers

@@ -1,6 +1,6 @@
 -- Forms of expressions: where their operands come to values that fit their types, so do they, or a check stops them.
 use Rattle.std.proofs.Common.{◌≡◌, ⊎_elim, ℕ, zero, suc, ℤ, Bool, true, false, ◌||◌, not, List, [], ◌∷◌, ◌++◌, length, Option, Some, None, Ok, Err, Contains, IsTrue, refl, sym, ◌∙◌, ap, subst}
-use Rattle.std.specs.Prelude.{pos, unsigned_abs, if◌then◌else◌, is_some, slice_get}
+use Rattle.std.specs.Prelude.{◌<◌, pos, negsuc, int_le, int_lt, unsigned_abs, if◌then◌else◌, is_some, slice_get}
 use Rattle.std.specs.List.{list_any}
 use Rattle.std.specs.Option.{option_and_then}
 use Rattle.std.proofs.lemmas.Option.{slice_get_within}
@@ -11,7 +11,8 @@ use Rattle.int_ops.specs.Operators.{truth}
 use Rattle.ivory_tree.specs.declared.BinOp.{BinOp}
 use Rattle.ivory_tree.specs.declared.BinOp.TheVariants.{OrElse, AndAlso, Or, Xor, And, Eq, Ne, Lt, Le, Gt, Ge, Shl, Shr, Add, Sub, WrapAdd, WrapSub, Mul, Div, Rem, WrapMul}
 use Rattle.ivory_tree.specs.declared.PrefixOp.TheVariants.{Neg, Not, Flip, Deref}
-use Rattle.bit_data.specs.Fields.{field_of}
+use Rattle.index_types.specs.Indices.{is_index}
+use Rattle.area_types.proofs.Truths.{both, is_below}
 use Rattle.type_trees.specs.Trees.{Leaf, part}
 use Rattle.type_trees.specs.Values.{Cell, at}
 use Rattle.area_types.specs.Syntax as types
@@ -37,7 +38,11 @@ use Rattle.region_soundness.specs.Fitting.{Entry, Allows, Refers, RefersAs, Valu
 use Rattle.region_soundness.specs.Scoped.{HeldFits, AreasFit, GlobalsFirst, Activation, NamesFit, NameFits}
 use Rattle.region_soundness.proofs.Answered.{Answered, AnswersOne, AnswersTwo}
 use Rattle.region_soundness.proofs.Trees.{part_held, leaf_number}
-use Rattle.region_soundness.proofs.Structs.{element_part, index_within}
+use Rattle.region_soundness.proofs.Structs.{element_part}
+
+pub index_within : (n : ℕ) (i : ℤ) → IsTrue (is_index n i) → unsigned_abs i < n
+index_within n (pos i) h = is_below i n (both (int_le (pos 0) (pos i)) (int_lt (pos i) (pos n)) h).1
+index_within n (negsuc i) h = let no : ⊥ = cc in absurd no
 
 -- a value of the type, in the same state
 pub record Gave (core : ModuleCore) (entry : Entry) (s : State) (ty : ValueType) (x : Value) (u : State) : Type 0 where
@@ -78,7 +83,7 @@ module _ (core : ModuleCore) (entry : Entry) (s : State) where
   if_safe post true first second n w h g = h
   if_safe post false first second n w h g = g
 
-  if_true_safe : {A : Type 0} (post : A → State → Type 0) (b : Bool) (first second : Part State A) (n : ℕ) (w : World) → b ≡ true → Safe post (first n w s) → Safe post ((if b then first else second) n w s)
+  pub if_true_safe : {A : Type 0} (post : A → State → Type 0) (b : Bool) (first second : Part State A) (n : ℕ) (w : World) → b ≡ true → Safe post (first n w s) → Safe post ((if b then first else second) n w s)
   if_true_safe post true first second n w e h = h
   if_true_safe post false first second n w e h = let no : ⊥ = cc in absurd no
 
@@ -109,7 +114,7 @@ module _ (core : ModuleCore) (entry : Entry) (s : State) where
 
   -- ---- forms
 
-  of_number_safe : (l : Label) (from : ValueType) (form : Option (ℤ → Answer)) (operand : Part State Value) → reference_of from ≡ None → AnswersOne core.structs from l form
+  pub of_number_safe : (l : Label) (from : ValueType) (form : Option (ℤ → Answer)) (operand : Part State Value) → reference_of from ≡ None → AnswersOne core.structs from l form
       → ((n : ℕ) (w : World) → Safe (G from) (operand n w s)) → (n : ℕ) (w : World) → Safe (G l.ty) (of_number core l form operand n w s)
   of_number_safe l from form operand plain a h n w =
       let next : (ℤ → Answer) → Part State Value = λ answer. bind operand (λ x. on_number core x (λ v. answering core l (answer v))) in
@@ -117,7 +122,7 @@ module _ (core : ModuleCore) (entry : Entry) (s : State) where
       (gave_after (G l.ty) from (operand n w s) (λ x. on_number core x (λ v. answering core l (a.answer v))) (h n w)
       (λ x fits m z. number_safe (G l.ty) from x (λ v. answering core l (a.answer v)) m z plain fits (λ v is. answering_safe l (a.answer v) (a.each v is) m z)))
 
-  of_numbers_safe : (l : Label) (t u : ValueType) (form : Option (ℤ → ℤ → Answer)) (left right : Part State Value) → reference_of t ≡ None → reference_of u ≡ None → AnswersTwo core.structs t u l form
+  pub of_numbers_safe : (l : Label) (t u : ValueType) (form : Option (ℤ → ℤ → Answer)) (left right : Part State Value) → reference_of t ≡ None → reference_of u ≡ None → AnswersTwo core.structs t u l form
       → ((n : ℕ) (w : World) → Safe (G t) (left n w s)) → ((n : ℕ) (w : World) → Safe (G u) (right n w s)) → (n : ℕ) (w : World) → Safe (G l.ty) (of_numbers core l form left right n w s)
   of_numbers_safe l t u form left right plain plain' a h g n w =
       let last : Value → Value → Part State Value = λ x y. on_number core x (λ v. on_number core y (λ v'. answering core l (a.answer v v'))) in
@@ -132,7 +137,7 @@ module _ (core : ModuleCore) (entry : Entry) (s : State) where
   truth_fits true = refl
   truth_fits false = refl
 
-  negated_safe : (operand : Part State Value) → ((n : ℕ) (w : World) → Safe (G Truth) (operand n w s)) → (n : ℕ) (w : World) → Safe (G Truth) (negated core operand n w s)
+  pub negated_safe : (operand : Part State Value) → ((n : ℕ) (w : World) → Safe (G Truth) (operand n w s)) → (n : ℕ) (w : World) → Safe (G Truth) (negated core operand n w s)
   negated_safe operand h n w =
       let next : Bool → Part State Value = λ holds. tick (give (Num (truth (not holds)))) in
       gave_after (G Truth) Truth (operand n w s) (λ x. on_truth core x next) (h n w)
@@ -146,7 +151,7 @@ module _ (core : ModuleCore) (entry : Entry) (s : State) where
       gave_after post Truth (test n w s) (λ x. on_truth core x next) (h n w)
       (λ x fits m z. truth_safe post x next m z fits (λ b. keeps_tick HasMeaning post (if b then first else second) m z s (λ j. if_safe post b first second j z (g j z) (k j z))))
 
-  there : (k : ℕ) (a : Area) → slice_get s.areas k ≡ Some (Live a) → area_at s.areas k ≡ Some a
+  pub there : (k : ℕ) (a : Area) → slice_get s.areas k ≡ Some (Live a) → area_at s.areas k ≡ Some a
   there k a e = ap (option_and_then in_map) e
 
   found_safe : (ty : ValueType) (x : Value) → ValueFits core entry s.areas ty x → (n : ℕ) (w : World) → Safe (G ty) (found core s.areas x n w s)
@@ -159,11 +164,11 @@ module _ (core : ModuleCore) (entry : Entry) (s : State) where
           let leads : type_at s.areas k path ≡ Some (written_out core.structs r.area) = ap (option_and_then (λ a. part a.ty path)) (ap (option_and_then in_map) f.live) ∙ f.leads in
           if_true_safe (Gave core entry s ty) (is_some (type_at s.areas k path)) (give (Ref k path)) (lost core) n w (ap is_some leads) (record { same = refl; fits = fits })
 
-  name_safe : (ty : ValueType) (look : State → Option Value) (v : Value) → look s ≡ Some v → ValueFits core entry s.areas ty v → (n : ℕ) (w : World) → Safe (G ty) (read_name core look n w s)
+  pub name_safe : (ty : ValueType) (look : State → Option Value) (v : Value) → look s ≡ Some v → ValueFits core entry s.areas ty v → (n : ℕ) (w : World) → Safe (G ty) (read_name core look n w s)
   name_safe ty look v has fits n w = some_safe (G ty) (look s) v (found core s.areas) n w has (found_safe ty v fits n w)
 
   -- `*r`
-  number_behind_safe : (l : Label) (from : ValueType) (operand : Part State Value) → AreasFit core.structs s.areas → DerefTyped l from
+  pub number_behind_safe : (l : Label) (from : ValueType) (operand : Part State Value) → AreasFit core.structs s.areas → DerefTyped l from
       → ((n : ℕ) (w : World) → Safe (G from) (operand n w s)) → (n : ℕ) (w : World) → Safe (G l.ty) (number_behind core operand n w s)
   number_behind_safe l from operand fit d h n w =
       let behind : ℕ → List ℕ → Part State Value = λ k path. by_state (λ s. on_some core (number_at s.areas k path) (λ v. tick (give (Num v)))) in
@@ -189,7 +194,7 @@ module _ (core : ModuleCore) (entry : Entry) (s : State) where
     allowed = subst (λ a. Allows (length core.areas) entry a k) (sym d) f.allowed;
   }
 
-  element_safe : (l : Label) (from index : ValueType) (array place : Part State Value) → ElementTyped l from index
+  pub element_safe : (l : Label) (from index : ValueType) (array place : Part State Value) → ElementTyped l from index
       → ((n : ℕ) (w : World) → Safe (G from) (array n w s)) → ((n : ℕ) (w : World) → Safe (G index) (place n w s)) → (n : ℕ) (w : World)
       → Safe (G l.ty) (bind array (λ x. bind place (element_behind core x)) n w s)
   element_safe l from index array place e h g n w =
@@ -202,4 +207,4 @@ module _ (core : ModuleCore) (entry : Entry) (s : State) where
       (λ i is. keeps_tick HasMeaning (G l.ty) (give (Ref k (path ++ unsigned_abs i ∷ []))) j q s
       (λ t. record { same = refl; fits = subst (λ ty. ValueFits core entry s.areas ty (Ref k (path ++ unsigned_abs i ∷ []))) (sym e.type)
           (deeper (record { constant = e.constant; region = e.region; area = types.Array e.length e.element }) (record { constant = e.constant; region = e.region; area = e.element }) k (unsigned_abs i) path r refl refl
-          (λ w there. element_part core.structs e.length e.element w path (unsigned_abs i) there (index_within e.length i is))) })))))
+          (λ w leads. element_part core.structs e.length (unsigned_abs i) e.element (index_within e.length i is) w path leads)) })))))

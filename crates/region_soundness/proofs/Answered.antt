@@ -1,5 +1,5 @@
 -- What a form answers is covered by its checks, and a number that it answers is a value of its type.
-use Rattle.std.proofs.Common.{◌≡◌, ℤ, Bool, true, false, ◌||◌, if◌then◌else◌, List, [], ◌∷◌, map, Option, Some, Result, Ok, Err, IfOk, IfErr, IsTrue, refl, sym, subst, ap, ◌∙◌}
+use Rattle.std.proofs.Common.{◌≡◌, ℤ, Bool, true, false, ◌||◌, if◌then◌else◌, List, [], ◌∷◌, map, Option, Some, Result, Ok, Err, IsTrue, refl, subst, ap, ◌∙◌}
 use Rattle.std.specs.List.{list_any}
 use Rattle.area_types.specs.Syntax.{ValueType}
 use Rattle.area_types.specs.Tables.{Table}

@@ -1,5 +1,5 @@
 -- Bit data: each has the word of its layout, and what its fields hold and take are numbers of their types.
-use Rattle.std.proofs.Common.{◌≡◌, ℕ, ◌^◌, ◌<◌, ◌≤◌, ℤ, pos, ◌≤ℤ◌, Bool, true, false, ◌&&◌, ◌||◌, if◌then◌else◌, [], map, length, slice_get, All, Option, Some, None, Result, Ok, Err, option_map, option_and_then, IsTrue, nat_eq, arith, refl, sym, subst, ap, ◌∙◌}
+use Rattle.std.proofs.Common.{◌≡◌, ℕ, ◌^◌, ◌<◌, ◌≤◌, ℤ, pos, ◌≤ℤ◌, Bool, true, false, ◌&&◌, ◌||◌, if◌then◌else◌, [], length, slice_get, Option, Some, None, Ok, Err, option_map, option_and_then, IsTrue, nat_eq, arith, refl, sym, subst, ap, ◌∙◌}
 use Rattle.std.specs.Prelude.{int_le, int_lt, nat_le}
 use Rattle.std.proofs.lemmas.Int.{ints}
 use Rattle.std.proofs.lemmas.Nat.{pow_pos}
@@ -7,7 +7,6 @@ use Rattle.std.proofs.lemmas.Bool.{and_parts}
 use Rattle.std.proofs.lemmas.Bool.Decides.{nat_tests}
 use Rattle.std.proofs.lemmas.Option.{slice_get-map, slice_get_within, get_or_from_slice_get}
 use Rattle.std.proofs.lemmas.List.Elements.{All-get_or}
-use Rattle.iv_words.specs.declared.IntKind.{IntKind}
 use Rattle.iv_words.specs.declared.IntKind.TheVariants.{U8, U16, U32, U64}
 use Rattle.iv_words.specs.Kinds.{width, is_signed, in_range_of, in_range}
 use Rattle.iv_words.proofs.Widths.{range_of_sign, in_range_by_sign}
@@ -17,7 +16,6 @@ use Rattle.bit_data.specs.declared.FieldBits.{FieldBits}
 use Rattle.bit_data.specs.declared.TooWide.{TooWide}
 use Rattle.bit_data.specs.Layouts.{IsLayout}
 use Rattle.bit_data.specs.Fields.{with_part, field_at, field_of, changed}
-use Rattle.bit_data.specs.Laws.{IsInWord}
 use Rattle.bit_data.proofs.Placed.{in_word}
 use Rattle.bit_data.proofs.Words.{width_64, is_number, change_fits, fields_hold_numbers}
 use Rattle.area_types.specs.Syntax.{ValueType, Truth, Int, Bits}

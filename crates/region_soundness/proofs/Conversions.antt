@@ -1,5 +1,5 @@
 -- Conversions answer numbers of the wanted type, with a check where not each number of the operand's type is one of it.
-use Rattle.std.proofs.Common.{◌≡◌, ℕ, ◌%◌, ◌<◌, ◌≤◌, ℤ, pos, negsuc, Bool, true, false, ◌&&◌, if◌then◌else◌, Some, Ok, Err, IsTrue, arith, refl, sym, subst, ap, ◌∙◌}
+use Rattle.std.proofs.Common.{◌≡◌, ℕ, ◌≤◌, ℤ, pos, negsuc, true, ◌&&◌, if◌then◌else◌, Ok, Err, IsTrue, arith, refl, sym, subst, ap}
 use Rattle.std.specs.Prelude.{int_le, int_lt, ◌-ℤ◌}
 use Rattle.std.proofs.lemmas.Int.{ints}
 use Rattle.std.proofs.lemmas.Nat.{mod_below}
@@ -7,15 +7,15 @@ use Rattle.iv_words.specs.declared.IntKind.{IntKind}
 use Rattle.iv_words.specs.declared.IntKind.TheVariants.{U8, U16, U32, U64, I8, I16, I32, I64}
 use Rattle.iv_words.specs.Kinds.{least, greatest, in_range}
 use Rattle.index_types.specs.Indices.{is_index, wrapped}
-use Rattle.area_types.specs.Syntax.{ValueType, Truth, Int, Ix, Bits, Ref}
-use Rattle.area_types.specs.Tables.{Table, is_length}
+use Rattle.area_types.specs.Syntax.{ValueType, Int, Ix}
+use Rattle.area_types.specs.Tables.{Table}
 use Rattle.area_types.proofs.Truths.{both, is_at_most}
 use Rattle.core_tree.specs.declared.SiteKind.TheVariants.{Index, Cast}
 use Rattle.core_tree.specs.Syntax.{Label}
 use Rattle.core_tree.specs.Types.{is_value, has_values_of, has_indices_of}
 use Rattle.core_tree.specs.TypedExpressions.{CastTyped, ToIndexTyped, WrapIndexTyped}
 use Rattle.core_meaning.specs.Answers.{cast_to, index_to, wrapped_to}
-use Rattle.region_soundness.proofs.Answered.{Answered, AnswersOne, number, guarded}
+use Rattle.region_soundness.proofs.Answered.{AnswersOne, number, guarded}
 
 -- the number is a value of the label's type
 value_of : (table : Table) (l : Label) (ty : ValueType) (v : ℤ) → l.ty ≡ ty → IsTrue (is_value table ty v) → IsTrue (is_value table l.ty v)

@@ -1,5 +1,5 @@
 -- Operators answer numbers of their types, row by row, and have a check for each stop.
-use Rattle.std.proofs.Common.{◌≡◌, ℕ, suc, ◌/◌, ◌^◌, ◌<◌, ℤ, pos, negsuc, Bool, true, false, not, if◌then◌else◌, List, ◌∷◌, [], Some, Result, Ok, Err, IfOk, IfErr, IsTrue, arith, refl, sym, subst, ap, ◌∙◌}
+use Rattle.std.proofs.Common.{◌≡◌, ℕ, ◌/◌, ◌^◌, ◌<◌, ℤ, pos, negsuc, Bool, true, false, not, if◌then◌else◌, List, ◌∷◌, [], Some, Result, Ok, Err, IfOk, IfErr, IsTrue, arith, refl, sym, subst, ◌∙◌}
 use Rattle.std.specs.Prelude.{int_div, int_lt, int_le}
 use Rattle.std.specs.Ordering.{int_eq}
 use Rattle.std.proofs.lemmas.Int.{ints}
@@ -8,7 +8,7 @@ use Rattle.std.proofs.Math.Nat.{div-le_self}
 use Rattle.iv_words.specs.declared.IntKind.{IntKind}
 use Rattle.iv_words.specs.declared.IntKind.TheVariants.{U16}
 use Rattle.iv_words.specs.Kinds.{width, is_signed, in_range_of, in_range}
-use Rattle.int_ops.specs.Operators.{truth, quotient, remainder, is_allowed, is_binary, exact}
+use Rattle.int_ops.specs.Operators.{truth, is_allowed, exact}
 use Rattle.int_ops.specs.declared.Op.{Op}
 use Rattle.int_ops.specs.declared.Op.TheVariants as op
 use Rattle.int_ops.specs.declared.Stop.{Stop}
@@ -17,8 +17,8 @@ use Rattle.int_ops.proofs.Answers.{answer_in_range}
 use Rattle.ivory_tree.specs.declared.BinOp.{BinOp}
 use Rattle.ivory_tree.specs.declared.BinOp.TheVariants.{OrElse, AndAlso, Or, Xor, And, Eq, Ne, Lt, Le, Gt, Ge, Shl, Shr, Add, Sub, WrapAdd, WrapSub, Mul, Div, Rem, WrapMul}
 use Rattle.ivory_tree.specs.declared.PrefixOp.{PrefixOp}
-use Rattle.ivory_tree.specs.declared.PrefixOp.TheVariants.{Neg, Not, Flip, Deref}
-use Rattle.area_types.specs.Syntax.{ValueType, Truth, Int, Ix, Bits, Ref}
+use Rattle.ivory_tree.specs.declared.PrefixOp.TheVariants.{Neg, Not, Flip}
+use Rattle.area_types.specs.Syntax.{ValueType, Truth, Int, Ix}
 use Rattle.area_types.specs.Tables.{Table}
 use Rattle.source_types.specs.Operators.{is_for, is_logic, is_arithmetic, prefix_is_for}
 use Rattle.source_types.specs.Values.{is_truth}

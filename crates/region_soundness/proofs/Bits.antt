@@ -184,8 +184,8 @@ module _ (core : ModuleCore) (valid : ValidCore core) (l : Label) (number : ℕ)
       let room = int_lt x (pos (2 ^ at.width)) in
       let made = with_part at.low at.width word x in
       let fits : room ≡ true → IsTrue (is_value core.structs l.ty made) = λ small.
-          subst (λ ty. IsTrue (is_value core.structs ty made)) (sym type)
-          (from_word core valid number layout there made (change_fits layout laid field within word x held (is_number at.width x (from_zero core.structs at.truth at.width x k) small))) in
+      subst (λ ty. IsTrue (is_value core.structs ty made)) (sym type)
+      (from_word core valid number layout there made (change_fits layout laid field within word x held (is_number at.width x (from_zero core.structs at.truth at.width x k) small))) in
       subst (Answered core.structs l) (sym (changing_is room made (record { width = at.width; x = x })))
       (guarded core.structs l room (at.truth || nat_eq at.width (width (least_unsigned at.width))) made Cast c (sure_room core.structs at.truth at.width x (in_word layout laid field within).truth k) fits)
 

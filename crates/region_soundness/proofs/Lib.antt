@@ -1,2 +1,4 @@
 pub mod Trees
 pub mod Lasting
+pub mod Cells
+pub mod Structs

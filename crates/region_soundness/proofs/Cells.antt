@@ -37,7 +37,7 @@ behind_all : (table : Table) (ts us : List ValueType) (vs : List ℤ) → Gets t
 behind_all table [] us vs h i t e = h i t e
 behind_all table (x ∷ ts) us [] h i t e = subst (λ ws. IsTrue (is_value table t (get_or ws i (pos 0)))) (dropped (length ts)) (behind_all table ts us [] (λ j u q. h (suc j) u q) i t e)
   where
-    dropped : (n : ℕ) → drop n ([] {A = ℤ}) ≡ []
+    dropped : (n : ℕ) → drop {A = ℤ} n [] ≡ []
     dropped zero = refl
     dropped (suc n) = refl
 behind_all table (x ∷ ts) us (v ∷ vs) h i t e = behind_all table ts us vs (λ j u q. h (suc j) u q) i t e

@@ -1,6 +1,7 @@
 -- What lasts of the map of areas while a run goes on: each area keeps its number, its type and its access. What it holds may change, but stays a
 -- value of its type; so what fits a type before fits it afterwards.
 use Rattle.std.proofs.Common.{◌≡◌, ℕ, zero, suc, ◌≤◌, List, [], ◌∷◌, ◌++◌, length, slice_get, Option, Some, None, IsTrue, refl, sym, ◌∙◌, ap, subst, arith}
+use Rattle.std.specs.Option.{option_and_then}
 use Rattle.type_trees.specs.Trees.{part}
 use Rattle.area_types.specs.Syntax.{ValueType}
 use Rattle.area_types.specs.Tables.{Table, written_out}
@@ -138,6 +139,13 @@ take_areas_fit table areas n h = from_areas_fit table (λ a. Gone) (λ x a q. le
 
 -- ---- what fits
 
+-- the area that a live one is
+pub there : (areas : Areas) (k : ℕ) (a : Area) → slice_get areas k ≡ Some (Live a) → area_at areas k ≡ Some a
+there areas k a e = ap (option_and_then in_map) e
+
+pub leads_to : (core : ModuleCore) (entry : Entry) (areas : Areas) (r : Reference) (k : ℕ) (path : List ℕ) → Refers core entry areas r k path → type_at areas k path ≡ Some (written_out core.structs r.area)
+leads_to core entry areas r k path f = ap (option_and_then (λ (a : Area). part a.ty path)) (there areas k f.area f.live) ∙ f.leads
+
 still_refers : (core : ModuleCore) (entry : Entry) (before after : Areas) (r : Reference) (k : ℕ) (path : List ℕ) (f : Refers core entry before r k path) (b : AreaState) → slice_get after k ≡ Some b → SameArea (Live f.area) b → Refers core entry after r k path
 still_refers core entry before after r k path f (Live b) e s =
     record { area = b; live = e; leads = ap (λ t. part t path) s.0 ∙ f.leads; access = subst (λ x. IsTrue (may_stand_for x r.constant)) (sym s.1) f.access; allowed = f.allowed }
@@ -151,6 +159,19 @@ reference_lasts core entry before after h (Some r) k path f = let p = h k (Live 
 pub value_lasts : (core : ModuleCore) (entry : Entry) (before after : Areas) → Lasting before after → (ty : ValueType) (v : Value) → ValueFits core entry before ty v → ValueFits core entry after ty v
 value_lasts core entry before after h ty (Num v) f = f
 value_lasts core entry before after h ty (Ref k path) f = reference_lasts core entry before after h (reference_of ty) k path f
+
+-- one value for each type, which fits it
+abbrev pub ValuesFitAll : ModuleCore → Entry → Areas → List ValueType → List Value → Type 0
+ValuesFitAll core entry areas [] [] = Unit {0}
+ValuesFitAll core entry areas [] (v ∷ vs) = ⊥
+ValuesFitAll core entry areas (t ∷ ts) [] = ⊥
+ValuesFitAll core entry areas (t ∷ ts) (v ∷ vs) = ValueFits core entry areas t v × ValuesFitAll core entry areas ts vs
+
+pub values_last : (core : ModuleCore) (entry : Entry) (before after : Areas) → Lasting before after → (ts : List ValueType) (vs : List Value) → ValuesFitAll core entry before ts vs → ValuesFitAll core entry after ts vs
+values_last core entry before after h [] [] f = tt
+values_last core entry before after h [] (v ∷ vs) f = f
+values_last core entry before after h (t ∷ ts) [] f = f
+values_last core entry before after h (t ∷ ts) (v ∷ vs) f = (value_lasts core entry before after h t v f.0, values_last core entry before after h ts vs f.1)
 
 pub names_last : (core : ModuleCore) (before after : Areas) → Lasting before after → (a : Activation) (names : List (ℕ × Value)) → NamesFit core before a names → NamesFit core after a names
 names_last core before after h a names f = λ number ty c g.

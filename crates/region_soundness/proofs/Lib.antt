@@ -1,3 +1,7 @@
+pub mod Answered
+pub mod Rows
+pub mod Conversions
+pub mod Bits
 pub mod Trees
 pub mod Lasting
 pub mod Cells

@@ -2,3 +2,10 @@ pub mod Answered
 pub mod Rows
 pub mod Conversions
 pub mod Bits
+pub mod Trees
+pub mod Lasting
+pub mod Cells
+pub mod Structs
+pub mod Parts
+pub mod Imports
+pub mod Inits

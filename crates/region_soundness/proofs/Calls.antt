@@ -26,7 +26,8 @@ use Rattle.core_meaning.specs.Imports.{outside}
 use Rattle.core_meaning.specs.Calls.{Calls, called, call}
 use Rattle.region_soundness.specs.Fitting.{Entry, ValueFits}
 use Rattle.region_soundness.specs.Scoped.{AreasFit, GlobalsFirst}
-use Rattle.region_soundness.proofs.Known.{Knows, KnowsOutcome, AllFit}
+use Rattle.region_soundness.proofs.Known.{Knows, KnowsOutcome}
+use Rattle.region_soundness.proofs.Lasting.{ValuesFitAll}
 use Rattle.region_soundness.proofs.Forms.{Gave, gave_after}
 use Rattle.region_soundness.proofs.Expressions.{eval_safe}
 use Rattle.region_soundness.proofs.Standing.{Lasts, ResultFits}
@@ -47,16 +48,16 @@ pub record Called (core : ModuleCore) (entry : Entry) (s : State) (wanted : Opti
 -- the arguments fit, and nothing has changed
 pub record AllGave (core : ModuleCore) (entry : Entry) (s : State) (types : List ValueType) (vs : List Value) (u : State) : Type 0 where
   pub same : u ≡ s
-  pub fits : AllFit core entry s.areas types vs
+  pub fits : ValuesFitAll core entry s.areas types vs
 
 -- each procedure has a meaning wherever its arguments fit
 abbrev pub CallsSafe : ModuleCore → List ProcCore → Calls → Type 0
 CallsSafe core procs calls = (k : ℕ) (p : ProcCore) → slice_get procs k ≡ Some p → (entry : Entry) (s : State) → Caller core s → (regions : ℕ → Region) (given : List ValueType) → ArgumentsFit regions (param_types p) given
-    → (args : List Value) → AllFit core entry s.areas given args → (n : ℕ) (w : World) → Safe (Called core entry s (option_map (applied regions) p.result)) (calls k args n w s)
+    → (args : List Value) → ValuesFitAll core entry s.areas given args → (n : ℕ) (w : World) → Safe (Called core entry s (option_map (applied regions) p.result)) (calls k args n w s)
 
 abbrev pub ImportsSafe : ModuleCore → Type 0
 ImportsSafe core = (k : ℕ) (i : ImportCore) → slice_get core.imports k ≡ Some i → (entry : Entry) (s : State) → Caller core s → (regions : ℕ → Region) (given : List ValueType) → ArgumentsFit regions i.params given
-    → (args : List Value) → AllFit core entry s.areas given args → (n : ℕ) (w : World) → Safe (Called core entry s (option_map type_of_plain i.result)) (outside core i args n w s)
+    → (args : List Value) → ValuesFitAll core entry s.areas given args → (n : ℕ) (w : World) → Safe (Called core entry s (option_map type_of_plain i.result)) (outside core i args n w s)
 
 module _ (env : Env) (valid : ValidCore env.core) (entry : Entry) (s : State) (scope : List ℕ) (known : Knows env scope entry s) (none : env.outcome ≡ None) where
   no_outcome : KnowsOutcome env entry s.areas None
@@ -84,7 +85,7 @@ module _ (env : Env) (valid : ValidCore env.core) (calls : Calls) (calls_safe : 
 
   -- the header of an import, and that of a procedure
   import_called : (c : CallCore) (header : Header) (regions : ℕ → Region) (given : List ValueType) (args : List Value) (o : Option ImportCore) → slice_get env.core.imports c.callee ≡ o
-      → option_map (λ (i : ImportCore). record { params = i.params; result = option_map type_of_plain i.result }) o ≡ Some header → ArgumentsFit regions header.params given → AllFit env.core entry s.areas given args
+      → option_map (λ (i : ImportCore). record { params = i.params; result = option_map type_of_plain i.result }) o ≡ Some header → ArgumentsFit regions header.params given → ValuesFitAll env.core entry s.areas given args
       → (n : ℕ) (w : World) → Safe (Called env.core entry s (option_map (applied regions) header.result)) (on_some env.core o (λ i. outside env.core i args) n w s)
   import_called c header regions given args None e h fit fits n w = let no : ⊥ = cc in absurd no
   import_called c header regions given args (Some i) e h fit fits n w =
@@ -93,7 +94,7 @@ module _ (env : Env) (valid : ValidCore env.core) (calls : Calls) (calls_safe : 
       (λ fit. subst (λ r. Safe (Called env.core entry s r) (outside env.core i args n w s)) (sym (result_applied regions i.result)) (imports_safe c.callee i e entry s caller regions given fit args fits n w)) fit
 
   proc_called : (c : CallCore) (header : Header) (regions : ℕ → Region) (given : List ValueType) (args : List Value) (o : Option ProcCore) → slice_get env.earlier c.callee ≡ o
-      → option_map (λ (p : ProcCore). record { params = param_types p; result = p.result }) o ≡ Some header → ArgumentsFit regions header.params given → AllFit env.core entry s.areas given args
+      → option_map (λ (p : ProcCore). record { params = param_types p; result = p.result }) o ≡ Some header → ArgumentsFit regions header.params given → ValuesFitAll env.core entry s.areas given args
       → (n : ℕ) (w : World) → Safe (Called env.core entry s (option_map (applied regions) header.result)) (tick (calls c.callee args) n w s)
   proc_called c header regions given args None e h fit fits n w = let no : ⊥ = cc in absurd no
   proc_called c header regions given args (Some p) e h fit fits n w =
@@ -101,7 +102,7 @@ module _ (env : Env) (valid : ValidCore env.core) (calls : Calls) (calls_safe : 
       subst (λ (x : Header). ArgumentsFit regions x.params given → Safe (Called env.core entry s (option_map (applied regions) x.result)) (tick (calls c.callee args) n w s)) same
       (λ fit. keeps_tick HasMeaning (Called env.core entry s (option_map (applied regions) p.result)) (calls c.callee args) n w s (λ m. calls_safe c.callee p e entry s caller regions given fit args fits m w)) fit
 
-  either_called : (c : CallCore) (header : Header) (regions : ℕ → Region) (given : List ValueType) (args : List Value) → header_of env c ≡ Some header → ArgumentsFit regions header.params given → AllFit env.core entry s.areas given args
+  either_called : (c : CallCore) (header : Header) (regions : ℕ → Region) (given : List ValueType) (args : List Value) → header_of env c ≡ Some header → ArgumentsFit regions header.params given → ValuesFitAll env.core entry s.areas given args
       → (n : ℕ) (w : World) → Safe (Called env.core entry s (option_map (applied regions) header.result)) (called env.core calls c args n w s)
   either_called c header regions given args is fit fits n w = go c.import refl
     where

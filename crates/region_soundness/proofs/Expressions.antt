@@ -127,9 +127,12 @@ module _ (env : Env) (valid : ValidCore env.core) (entry : Entry) (s : State) wh
       behind (Ref k path) fits m z =
           let from_is = subst (λ t. ValueFits env.core entry s.areas t (Ref k path)) typed.operand fits in
           keeps_tick HasMeaning (Gave env.core entry s l.ty) (give (Ref k (path ++ field ∷ []))) m z s
-          (λ j. record { same = refl; fits = subst (λ t. ValueFits env.core entry s.areas t (Ref k (path ++ field ∷ []))) (sym typed.type)
-              (deeper env.core entry s (record { constant = typed.constant; region = typed.region; area = types.Struct typed.number }) (record { constant = typed.constant; region = typed.region; area = typed.area }) k field path from_is refl refl
-              (λ a leads. field_part env.core valid.table typed.number field typed.area typed.found a path leads)) })
+          (λ j. record {
+            same = refl;
+            fits = subst (λ t. ValueFits env.core entry s.areas t (Ref k (path ++ field ∷ []))) (sym typed.type)
+                (deeper env.core entry s (record { constant = typed.constant; region = typed.region; area = types.Struct typed.number }) (record { constant = typed.constant; region = typed.region; area = typed.area }) k field path from_is refl refl
+                (λ a leads. field_part env.core valid.table typed.number field typed.area typed.found a path leads));
+          })
 
   -- ---- areas of the module
 

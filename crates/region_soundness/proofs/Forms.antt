@@ -205,6 +205,9 @@ module _ (core : ModuleCore) (entry : Entry) (s : State) where
       reference_safe (G l.ty) e.constant e.region (types.Array e.length e.element) x (λ k path. on_number core y (past k path)) j q (subst (λ t. ValueFits core entry s.areas t x) e.operand fits)
       (λ k path r. number_safe (G l.ty) (types.Ix e.length) y (past k path) j q refl (subst (λ t. ValueFits core entry s.areas t y) e.index_is fits')
       (λ i is. keeps_tick HasMeaning (G l.ty) (give (Ref k (path ++ unsigned_abs i ∷ []))) j q s
-      (λ t. record { same = refl; fits = subst (λ ty. ValueFits core entry s.areas ty (Ref k (path ++ unsigned_abs i ∷ []))) (sym e.type)
-          (deeper (record { constant = e.constant; region = e.region; area = types.Array e.length e.element }) (record { constant = e.constant; region = e.region; area = e.element }) k (unsigned_abs i) path r refl refl
-          (λ w leads. element_part core.structs e.length (unsigned_abs i) e.element (index_within e.length i is) w path leads)) })))))
+      (λ t. record {
+        same = refl;
+        fits = subst (λ ty. ValueFits core entry s.areas ty (Ref k (path ++ unsigned_abs i ∷ []))) (sym e.type)
+            (deeper (record { constant = e.constant; region = e.region; area = types.Array e.length e.element }) (record { constant = e.constant; region = e.region; area = e.element }) k (unsigned_abs i) path r refl refl
+            (λ w leads. element_part core.structs e.length (unsigned_abs i) e.element (index_within e.length i is) w path leads));
+      })))))

@@ -1,5 +1,5 @@
 -- What is known of a state where an expression stands.
-use Rattle.std.proofs.Common.{◌≡◌, ℕ, List, [], ◌∷◌, Option, Some}
+use Rattle.std.proofs.Common.{◌≡◌, ℕ, List, Option, Some}
 use Rattle.area_types.specs.Syntax.{ValueType}
 use Rattle.core_tree.specs.Syntax.{ModuleCore}
 use Rattle.core_tree.specs.Environments.{Env}
@@ -26,10 +26,3 @@ pub record OutcomeFits (core : ModuleCore) (entry : Entry) (areas : Areas) (outc
 
 abbrev pub KnowsOutcome : Env → Entry → Areas → Option Value → Type 0
 KnowsOutcome env entry areas outcome = (ty : ValueType) → env.outcome ≡ Some ty → OutcomeFits env.core entry areas outcome ty
-
--- values that fit types, one for each
-abbrev pub AllFit : ModuleCore → Entry → Areas → List ValueType → List Value → Type 0
-AllFit core entry areas [] [] = Unit {0}
-AllFit core entry areas [] (v ∷ vs) = ⊥
-AllFit core entry areas (t ∷ ts) [] = ⊥
-AllFit core entry areas (t ∷ ts) (v ∷ vs) = ValueFits core entry areas t v × AllFit core entry areas ts vs

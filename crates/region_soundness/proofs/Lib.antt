@@ -1,3 +1,4 @@
+pub mod Plain
 pub mod Answered
 pub mod Rows
 pub mod Conversions
@@ -6,6 +7,16 @@ pub mod Trees
 pub mod Lasting
 pub mod Cells
 pub mod Structs
+pub mod Known
 pub mod Parts
+pub mod Forms
+pub mod Expressions
+pub mod Standing
+pub mod Conditions
+pub mod Calls
 pub mod Imports
 pub mod Inits
+pub mod Statements
+pub mod Procedures
+pub mod First
+pub mod Runs

@@ -35,8 +35,8 @@ use Rattle.core_meaning.specs.Statements.{Flow, exec_all}
 use Rattle.core_meaning.specs.Run.{result_of, body_of, procedure_call, with_procedure}
 use Rattle.region_soundness.specs.Fitting.{Entry, Referred, Allows, Refers, RefersAs, ValueFits}
 use Rattle.region_soundness.specs.Scoped.{name_in, NameFits, NamesFit}
-use Rattle.region_soundness.proofs.Known.{Knows, activation, AllFit}
-use Rattle.region_soundness.proofs.Lasting.{Lasting, take_lasts, take_areas_fit}
+use Rattle.region_soundness.proofs.Known.{Knows, activation}
+use Rattle.region_soundness.proofs.Lasting.{Lasting, ValuesFitAll, take_lasts, take_areas_fit}
 use Rattle.region_soundness.proofs.Conditions.{Same, required_safe, ensured_safe}
 use Rattle.region_soundness.proofs.Calls.{Caller, Called, CallsSafe, ImportsSafe}
 use Rattle.region_soundness.proofs.Standing.{Entered, Stands, Lasts, lasts_refl, ResultFits, name_here, name_past, knows_parameters, result_early, Ended, Came}
@@ -51,7 +51,7 @@ pub record Argument (core : ModuleCore) (entry : Entry) (areas : Areas) (regions
   pub fit : Fits (applied regions wanted) given
   pub fits : ValueFits core entry areas given value
 
-pub argument : (core : ModuleCore) (entry : Entry) (areas : Areas) (regions : ℕ → Region) (params given : List ValueType) (args : List Value) → ArgumentsFit regions params given → AllFit core entry areas given args
+pub argument : (core : ModuleCore) (entry : Entry) (areas : Areas) (regions : ℕ → Region) (params given : List ValueType) (args : List Value) → ArgumentsFit regions params given → ValuesFitAll core entry areas given args
     → (m : ℕ) (t : ValueType) → slice_get params m ≡ Some t → Argument core entry areas regions args m t
 argument core entry areas regions [] given args h g m t e = let no : ⊥ = cc in absurd no
 argument core entry areas regions (p ∷ params) [] args h g m t e = absurd h
@@ -76,12 +76,12 @@ below_low (suc n) m (zero, lt, e) = omega (arith, e)
 below_low (suc n) m (suc k, lt, e) = omega (arith, below_low n m (k, omega (arith, lt), e))
 
 -- what stands before a place in a list
+taken_none : {A : Type 0} (n k : ℕ) → slice_get {X = A} (take n []) k ≡ slice_get {X = A} [] k
+taken_none zero k = refl
+taken_none (suc n) k = refl
+
 taken_before : {A : Type 0} (xs : List A) (n k : ℕ) → k < n → slice_get (take n xs) k ≡ slice_get xs k
 taken_before [] n k lt = taken_none n k
-  where
-    taken_none : (n k : ℕ) → slice_get (take n []) k ≡ slice_get [] k
-    taken_none zero k = refl
-    taken_none (suc n) k = refl
 taken_before (x ∷ xs) zero k lt = absurd (omega arith)
 taken_before (x ∷ xs) (suc n) zero lt = refl
 taken_before (x ∷ xs) (suc n) (suc k) lt = taken_before xs n k (omega arith)
@@ -108,7 +108,7 @@ param_kept table n (suc m) (u ∷ ts) t h e = param_kept table n m ts t (All-tai
 -- ---- from caller to callee and back
 
 -- the arguments of a call, which is made from this state
-module _ (core : ModuleCore) (entry : Entry) (s : State) (regions : ℕ → Region) (params given : List ValueType) (fit : ArgumentsFit regions params given) (args : List Value) (fits : AllFit core entry s.areas given args) where
+module _ (core : ModuleCore) (entry : Entry) (s : State) (regions : ℕ → Region) (params given : List ValueType) (fit : ArgumentsFit regions params given) (args : List Value) (fits : ValuesFitAll core entry s.areas given args) where
   -- how the callee is entered
   abbrev pub callee : Entry
   callee = record { params = params; args = args; first = length s.areas }
@@ -180,7 +180,7 @@ module _ (core : ModuleCore) (entry : Entry) (s : State) (regions : ℕ → Regi
 -- ---- procedures
 
 -- what a body gives back, without its names and areas
-module _ (core : ModuleCore) (valid : ValidCore core) (imports_safe : ImportsSafe core) (inits_safe : (env : Env) → env.core ≡ core → env.outcome ≡ None → (entry : Entry) → InitsSafe env entry) where
+module _ (core : ModuleCore) (valid : ValidCore core) (imports_safe : ImportsSafe core) (inits_safe : (env : Env) → ValidCore env.core → env.outcome ≡ None → (entry : Entry) → InitsSafe env entry) where
   module _ (earlier : List ProcCore) (calls : Calls) (calls_safe : CallsSafe core earlier calls) (p : ProcCore) (t : ProcTyped core earlier p) where
     abbrev env : Env
     env = env_of core earlier p
@@ -197,32 +197,32 @@ module _ (core : ModuleCore) (valid : ValidCore core) (imports_safe : ImportsSaf
     fallen true (Some ty) e areas h g = let no : ⊥ = cc in absurd no
     fallen false r e areas h g = let no : ⊥ = cc in absurd no
 
+    abbrev AtEnd : Entry → State → Flow → State → Type 0
+    AtEnd entry s = Came env base entry s (after_all p.body (start p)).scope (after_all p.body (start p)).next (stmts_fall p.body) (stmts_break p.body) false
+
+    given_back : (entry : Entry) (s : State) (flow : Flow) (u : State) → AtEnd entry s flow u → (n : ℕ) (w : World) → Safe (Ended env base entry s) (result_of core (ensured core p) flow n w u)
+    given_back entry s Falls u c n w =
+        let fits = fallen (stmts_fall p.body) p.result entry u.areas t.returns c.reached in
+        keeps_after HasMeaning (Same u) (Ended env base entry s) (ensured core p None n w u) (λ t. give None)
+        (ensured_safe env valid entry p base t.contracts u None (knows_parameters env base entry (after_all p.body (start p)).scope (after_all p.body (start p)).next u c.stands) fits n w)
+        (λ x v e m z. subst (λ y. Ended env base entry s None y) (sym e) (record { lasts = c.lasts; areas = c.stands.knows.areas; fits = fits }))
+    given_back entry s Broke u c n w = let no : ⊥ = (let a = c.allowed in cc) in absurd no
+    given_back entry s (Returned result) u c n w = c
+
     body_safe : (entry : Entry) → Entered core entry → (s : State) → Stands env base base (length p.params) entry s → (n : ℕ) (w : World) → Safe (Ended env base entry s) (body_of core calls p n w s)
     body_safe entry entered s st n w =
         let post = Ended env base entry s in
         let known = knows_parameters env base entry base (length p.params) s st in
         keeps_after HasMeaning (Same s) post (required core p n w s) (λ t. bind (exec_all core calls (ensured core p) p.body) (result_of core (ensured core p))) (required_safe env valid entry p base t.contracts s refl known n w)
         (λ u v e m z. subst (λ x. Safe post (bind (exec_all core calls (ensured core p) p.body) (result_of core (ensured core p)) m z x)) (sym e)
-        (keeps_after HasMeaning (Body entry s) post (exec_all core calls (ensured core p) p.body m z s) (result_of core (ensured core p))
-        (exec_all_safe env valid refl calls calls_safe imports_safe base entry entered kept (ensured core p) (λ u result. ensured_safe env valid entry p base t.contracts u result) (inits_safe env refl refl entry) p.body (start p) t.body s st m z)
+        (keeps_after HasMeaning (AtEnd entry s) post (exec_all core calls (ensured core p) p.body m z s) (result_of core (ensured core p))
+        (exec_all_safe env valid refl calls calls_safe imports_safe base entry entered kept (ensured core p) (λ u result. ensured_safe env valid entry p base t.contracts u result) (inits_safe env valid refl entry) p.body (start p) t.body s st m z)
         (λ flow u c j q. given_back entry s flow u c j q)))
-      where
-        abbrev Body : Entry → State → Flow → State → Type 0
-        Body entry s = Came env base entry s (after_all p.body (start p)).scope (after_all p.body (start p)).next (stmts_fall p.body) (stmts_break p.body) false
-
-        given_back : (entry : Entry) (s : State) (flow : Flow) (u : State) → Body entry s flow u → (n : ℕ) (w : World) → Safe (Ended env base entry s) (result_of core (ensured core p) flow n w u)
-        given_back entry s Falls u c n w =
-            let fits = fallen (stmts_fall p.body) p.result entry u.areas t.returns c.reached in
-            keeps_after HasMeaning (Same u) (Ended env base entry s) (ensured core p None n w u) (λ t. give None)
-            (ensured_safe env valid entry p base t.contracts u None (knows_parameters env base entry (after_all p.body (start p)).scope (after_all p.body (start p)).next u c.stands) fits n w)
-            (λ x v e m z. subst (λ y. Ended env base entry s None y) (sym e) (record { lasts = c.lasts; areas = c.stands.knows.areas; fits = fits }))
-        given_back entry s Broke u c n w = let no : ⊥ = (let a = c.allowed in cc) in absurd no
-        given_back entry s (Returned result) u c n w = c
 
     -- ---- its call
 
     -- from the state in which its body ended to that of its caller
-    returned : (entry : Entry) (s : State) (regions : ℕ → Region) (given : List ValueType) (fit : ArgumentsFit regions (param_types p) given) (args : List Value) (fits : AllFit core entry s.areas given args) → Caller core s
+    returned : (entry : Entry) (s : State) (regions : ℕ → Region) (given : List ValueType) (fit : ArgumentsFit regions (param_types p) given) (args : List Value) (fits : ValuesFitAll core entry s.areas given args) → Caller core s
         → (result : Option Value) (u : State) → Ended env base (callee core entry s regions (param_types p) given fit args fits) (enter args s) result u → Called core entry s (option_map (applied regions) p.result) result (back u)
     returned entry s regions given fit args fits caller result u c =
         let entered = callee_entered core entry s regions (param_types p) given fit args fits caller.room in
@@ -237,7 +237,7 @@ module _ (core : ModuleCore) (valid : ValidCore core) (imports_safe : ImportsSaf
           fits = result_back core entry s regions (param_types p) given fit args fits (take_from u.frames.own.first u.areas) p.result result kept early;
         }
 
-    pub procedure_safe : (entry : Entry) (s : State) → Caller core s → (regions : ℕ → Region) (given : List ValueType) → ArgumentsFit regions (param_types p) given → (args : List Value) → AllFit core entry s.areas given args
+    pub procedure_safe : (entry : Entry) (s : State) → Caller core s → (regions : ℕ → Region) (given : List ValueType) → ArgumentsFit regions (param_types p) given → (args : List Value) → ValuesFitAll core entry s.areas given args
         → (n : ℕ) (w : World) → Safe (Called core entry s (option_map (applied regions) p.result)) (procedure_call core calls p args n w s)
     procedure_safe entry s caller regions given fit args fits n w =
         let inner = callee core entry s regions (param_types p) given fit args fits in

@@ -2,7 +2,7 @@
 use Rattle.std.proofs.Common.{◌≡◌, ◌⊎◌, ⊎_elim, inl, inr, ℕ, zero, suc, ◌+◌, ◌≤◌, ℤ, Bool, true, false, ◌&&◌, List, [], ◌∷◌, ◌++◌, map, take, length, Option, Some, None, All, IsTrue, refl, sym, ◌∙◌, ap, subst, arith, length-append, append_assoc, append-nil}
 use Rattle.std.specs.Prelude.{pos, negsuc, int_le, int_lt, slice_get, if◌then◌else◌}
 use Rattle.std.specs.Option.{option_map, option_and_then}
-use Rattle.std.proofs.lemmas.Bool.{and_from}
+use Rattle.std.proofs.lemmas.Bool.{and_from, lt-ltb}
 use Rattle.std.proofs.lemmas.List.Elements.{All-head, All-tail}
 use Rattle.iv_words.specs.Words.{same_word}
 use Rattle.run_records.specs.declared.EntryCall.{EntryCall}
@@ -15,7 +15,7 @@ use Rattle.step_semantics.specs.Bodies.{CallFits}
 use Rattle.step_semantics.specs.Safe.{HasMeaning, Safe}
 use Rattle.step_semantics.proofs.Keeping.{keeps_after}
 use Rattle.step_semantics.proofs.Safety.{run_never_undefined}
-use Rattle.area_types.proofs.Truths.{both}
+use Rattle.area_types.proofs.Truths.{both, is_at_most}
 use Rattle.area_types.specs.Syntax as types
 use Rattle.area_types.specs.Syntax.{ValueType, Name}
 use Rattle.area_types.specs.Tables.{Table}
@@ -36,11 +36,22 @@ use Rattle.core_meaning.specs.Calls.{Calls, no_procedures}
 use Rattle.core_meaning.specs.Run.{procedure_call, with_procedure, entry_result, entry_among, entry}
 use Rattle.region_soundness.specs.Fitting.{Entry, ValueFits}
 use Rattle.region_soundness.specs.Laws.{RunsAreDefined}
-use Rattle.region_soundness.proofs.Known.{AllFit}
-use Rattle.region_soundness.proofs.Lasting.{globals_last, lasting_longer}
+use Rattle.region_soundness.proofs.Lasting.{ValuesFitAll, globals_last, lasting_longer}
 use Rattle.region_soundness.proofs.Calls.{Caller, Called, CallsSafe, ImportsSafe}
 use Rattle.region_soundness.proofs.Standing.{ResultFits}
-use Rattle.core_tree.specs.Environments.{Env}
+use Rattle.core_tree.specs.Environments.{Env, type_of_plain}
+use Rattle.core_tree.specs.Syntax.{ExprCore, ImportCore, type_of}
+use Rattle.area_types.specs.Tables.{is_stored}
+use Rattle.core_tree.specs.TypedItems.{ImportTyped}
+use Rattle.core_tree.specs.TypedExpressions.{HasType}
+use Rattle.core_meaning.specs.Expressions.{eval}
+use Rattle.core_meaning.specs.Imports.{outside}
+use Rattle.step_semantics.proofs.Keeping.{keeps_weaker}
+use Rattle.region_soundness.proofs.Parts.{Steady, NumberOf, stored_number}
+use Rattle.region_soundness.proofs.Forms.{Gave}
+use Rattle.region_soundness.proofs.Calls.{value_safe}
+use Rattle.region_soundness.proofs.Imports.{PlainFits, plain_result_fits, Replied, outside_safe}
+use Rattle.region_soundness.proofs.Inits.{first_value_safe}
 use Rattle.core_meaning.specs.State.{first_area}
 use Rattle.std.proofs.lemmas.List.{length-map}
 use Rattle.region_soundness.proofs.Statements.{InitsSafe}
@@ -50,7 +61,10 @@ use Rattle.region_soundness.proofs.First.{first_areas_fit, first_globals}
 -- ---- numbers from outside
 
 truth_value : (v : ℤ) → IsTrue (int_le (pos 0) v && int_le v (pos 1)) → IsTrue (int_le (pos 0) v && int_lt v (pos 2))
-truth_value (pos n) h = h
+truth_value (pos n) h =
+    let b = both (int_le (pos 0) (pos n)) (int_le (pos n) (pos 1)) h in
+    let small = is_at_most n 1 b.1 in
+    and_from (int_le (pos 0) (pos n)) (int_lt (pos n) (pos 2)) b.0 (lt-ltb n 2 (omega (arith, small)))
 truth_value (negsuc n) h = let no : ⊥ = cc in absurd no
 
 plain_value : (table : Table) (t : ValueType) (p : Plain) (v : ℤ) → plain_of t ≡ Some p → IsTrue (plain_fits p v) → IsTrue (is_value table t v)
@@ -70,7 +84,7 @@ plain_itself (types.Ref c r a) p e = let no : ⊥ = cc in absurd no
 -- the values of an entry call are arguments that fit
 pub record Given (core : ModuleCore) (entry : Entry) (areas : Areas) (types : List ValueType) (values : List ℤ) : Type 0 where
   pub fit : ArgumentsFit (λ j. Global) types types
-  pub fits : AllFit core entry areas types (map Num values)
+  pub fits : ValuesFitAll core entry areas types (map Num values)
 
 -- the first parameter of an export, and the others
 record Parted (o : Option Plain) (r : Option (List Plain)) (ts : List Plain) : Type 0 where
@@ -182,7 +196,7 @@ by_test post false first second n w s h g = g refl
 outermost : Entry
 outermost = record { params = []; args = []; first = 0 }
 
-module _ (core : ModuleCore) (valid : ValidCore core) (imports_safe : ImportsSafe core) (inits_safe : (env : Env) → env.core ≡ core → env.outcome ≡ None → (entry : Entry) → InitsSafe env entry) (name : Name) (values : List ℤ) where
+module _ (core : ModuleCore) (valid : ValidCore core) (imports_safe : ImportsSafe core) (inits_safe : (env : Env) → ValidCore env.core → env.outcome ≡ None → (entry : Entry) → InitsSafe env entry) (name : Name) (values : List ℤ) where
   called_on : (s : State) → Caller core s → (wanted : Option ValueType) (result : Option Value) (u : State) → Called core outermost s wanted result u → Caller core u
   called_on s caller wanted result u c = record {
     areas = c.areas;
@@ -226,10 +240,43 @@ module _ (core : ModuleCore) (valid : ValidCore core) (imports_safe : ImportsSaf
 -- ---- runs
 
 first_caller : (core : ModuleCore) → ValidCore core → Caller core (first_state core)
-first_caller core valid = record { areas = first_areas_fit core valid; globals = first_globals core; room = omega (arith, length-map (first_area core) core.areas) }
+first_caller core valid = record { areas = first_areas_fit core valid; globals = first_globals core; room = omega (arith, length-map core.areas (first_area core)) }
 
-pub runs_are_defined : ((core : ModuleCore) → ValidCore core → ImportsSafe core) → ((core : ModuleCore) → ValidCore core → (env : Env) → env.core ≡ core → env.outcome ≡ None → (entry : Entry) → InitsSafe env entry) → RunsAreDefined
-runs_are_defined imports inits core valid script fits =
+-- ---- imports and first values of areas, as statements need them
+
+all_at : {A : Type 0} (P : A → Type 0) (xs : List A) (k : ℕ) (x : A) → All P xs → slice_get xs k ≡ Some x → P x
+all_at P [] k x h e = let no : ⊥ = cc in absurd no
+all_at P (y ∷ xs) zero x h e = let same : y ≡ x = cc in subst P same (All-head P y xs h)
+all_at P (y ∷ xs) (suc k) x h e = all_at P xs k x (All-tail P y xs h) e
+
+reply_fits : (core : ModuleCore) (entry : Entry) (areas : Areas) (r : Option Plain) (v : Option Value) → PlainFits core.structs r v → ResultFits core entry areas (option_map type_of_plain r) v
+reply_fits core entry areas None None h = tt
+reply_fits core entry areas None (Some v) h = h
+reply_fits core entry areas (Some t) None h = h
+reply_fits core entry areas (Some t) (Some v) h = plain_result_fits core entry areas t v h
+
+imports_safe : (core : ModuleCore) → ValidCore core → ImportsSafe core
+imports_safe core valid k i e entry s caller regions given fit args fits n w =
+    keeps_weaker HasMeaning (Replied core i s) (Called core entry s (option_map type_of_plain i.result)) (outside core i args n w s)
+    (λ result u r. record {
+      lasts = record { areas = r.lasting; first = ap (λ f. f.own.first) r.frames; callers = ap (λ f. f.callers) r.frames };
+      names = ap (λ f. f.own.names) r.frames;
+      areas = r.areas;
+      fits = reply_fits core entry u.areas i.result result r.fits;
+    })
+    (outside_safe core i (all_at (ImportTyped core) core.imports k i valid.imports e) entry s caller.areas regions given args fit fits n w)
+
+inits_safe : (env : Env) → ValidCore env.core → env.outcome ≡ None → (entry : Entry) → InitsSafe env entry
+inits_safe env valid none entry at s known area is init typed n w = first_value_safe env valid at s numbers area is init typed n w
+  where
+    numbers : (e : ExprCore) (t : ValueType) → HasType env at.scope e t → IsTrue (is_stored (length env.core.structs.words) t) → (n : ℕ) (w : World) → Safe (Steady s (NumberOf env.core.structs t)) (eval env.core None e n w s)
+    numbers e t h stored n w =
+        keeps_weaker HasMeaning (Gave env.core entry s (type_of e)) (Steady s (NumberOf env.core.structs t)) (eval env.core None e n w s)
+        (λ x u g. (g.same, stored_number env.core entry s.areas t x stored (subst (λ ty. ValueFits env.core entry s.areas ty x) h.type g.fits)))
+        (value_safe env valid entry s at.scope known none e h.typed n w)
+
+pub runs_are_defined : RunsAreDefined
+runs_are_defined core valid script fits =
     run_never_undefined (Caller core) (exports_of core) (entry core)
-    (λ call fit n w s caller. entry_safe core valid (imports core valid) (inits core valid) call.name call.values core.procs [] (no_procedures core) 0 refl (λ k p e. let no : ⊥ = cc in absurd no) refl fit s caller n w)
+    (λ call fit n w s caller. entry_safe core valid (imports_safe core valid) inits_safe call.name call.values core.procs [] (no_procedures core) 0 refl (λ k p e. let no : ⊥ = cc in absurd no) refl fit s caller n w)
     (seen core) (first_state core) (first_caller core valid) script fits

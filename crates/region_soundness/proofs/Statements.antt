@@ -154,8 +154,8 @@ abbrev pub EnsuredSafe : Env → (base : List ℕ) → Entry → Ensured → Typ
 EnsuredSafe env base entry ensured = (u : State) (result : Option Value) → Knows env base entry u → ResultFits env.core entry u.areas env.result result → (n : ℕ) (w : World) → Safe (Same u) (ensured result n w u)
 
 module _ (env : Env) (valid : ValidCore env.core) (none : env.outcome ≡ None) (calls : Calls) (calls_safe : CallsSafe env.core env.earlier calls) (imports_safe : ImportsSafe env.core)
-         (base : List ℕ) (entry : Entry) (entered : Entered env.core entry) (kept : (t : ValueType) → env.result ≡ Some t → IsTrue (not (escapes t)))
-         (ensured : Ensured) (ensured_safe : EnsuredSafe env base entry ensured) (inits_safe : InitsSafe env entry) where
+    (base : List ℕ) (entry : Entry) (entered : Entered env.core entry) (kept : (t : ValueType) → env.result ≡ Some t → IsTrue (not (escapes t)))
+    (ensured : Ensured) (ensured_safe : EnsuredSafe env base entry ensured) (inits_safe : InitsSafe env entry) where
   abbrev Here : Point → State → Type 0
   Here at s = Stands env base at.scope at.next entry s
 
@@ -233,7 +233,7 @@ module _ (env : Env) (valid : ValidCore env.core) (none : env.outcome ≡ None) 
           let lasting : Lasting s.areas u.areas = more_lasts s.areas (Live a ∷ []) in
           let stands = stands_on env base entry at.scope at.next s u st lasting (more_areas_fit env.core.structs s.areas a st.knows.areas fits) refl in
           let r : Refers env.core entry u.areas (record { constant = false; region = Own; area = area }) (length s.areas) [] =
-              record { area = a; live = get_last s.areas (Live a) (length s.areas) refl; leads = refl; access = refl; allowed = st.room } in
+          record { area = a; live = get_last s.areas (Live a) (length s.areas) refl; leads = refl; access = refl; allowed = st.room } in
           record { reached = refl; lasts = record { areas = lasting; first = refl; callers = refl }; stands = next_named at u number (types.Ref false Own area) (Ref (length s.areas) []) stands t.name r }
 
   written_areas : (at : Point) (c : StmtCore) → named_by c ≡ [] → IsTrue (stmt_falls c) → (s : State) → Here at s → (k : ℕ) (path : List ℕ) (b : Written) (held : Held) → type_at s.areas k path ≡ Some b → HeldFits env.core.structs b held
@@ -335,9 +335,9 @@ module _ (env : Env) (valid : ValidCore env.core) (none : env.outcome ≡ None) 
       → (s : State) → Here at s → (n : ℕ) (w : World) → Safe (After at c s) (tick (counted more next i (turn number (exec_all env.core calls ensured cs))) n w s)
   counted_came at c number length cs no_name falls t h next within go_on small more i f s st n w =
       let end : (u : State) → Lasts s u → Here at u → After at c s Falls u = λ u l stands. record {
-          reached = falls;
-          lasts = l;
-          stands = subst (λ xs. Stands env base (xs ++ at.scope) (at.next + locals_in c) entry u) (sym no_name) (stands_further env base entry at.scope at.next (at.next + locals_in c) u (omega arith) stands);
+        reached = falls;
+        lasts = l;
+        stands = subst (λ xs. Stands env base (xs ++ at.scope) (at.next + locals_in c) entry u) (sym no_name) (stands_further env base entry at.scope at.next (at.next + locals_in c) u (omega arith) stands);
       } in
       keeps_tick HasMeaning (After at c s) (counted more next i (turn number (exec_all env.core calls ensured cs))) n w s
       (λ m. keeps_counted HasMeaning (Turns at cs s) (After at c s) (λ u p. end u p.lasts p.stands) (λ u p. end u p.lasts p.stands) (λ v u p. p) next (turn number (exec_all env.core calls ensured cs)) within go_on

@@ -1,11 +1,11 @@
 -- Calls: arguments that fit, and what a call leaves.
-use Rattle.std.proofs.Common.{◌≡◌, ℕ, zero, suc, ◌≤◌, Bool, true, false, List, [], ◌∷◌, map, length, Option, Some, None, All, IsTrue, refl, sym, ◌∙◌, ap, subst}
+use Rattle.std.proofs.Common.{◌≡◌, ℕ, ◌≤◌, Bool, true, false, List, [], ◌∷◌, map, length, Option, Some, None, All, refl, sym, ◌∙◌, ap, subst}
 use Rattle.std.specs.Prelude.{slice_get, if◌then◌else◌}
 use Rattle.std.specs.Option.{option_map}
 use Rattle.std.proofs.lemmas.List.Elements.{All-head, All-tail}
-use Rattle.step_semantics.specs.Steps.{World, Part, give, bind, tick}
+use Rattle.step_semantics.specs.Steps.{World, give, bind, tick}
 use Rattle.step_semantics.specs.Safe.{HasMeaning, Safe}
-use Rattle.step_semantics.proofs.Keeping.{keeps_weaker, keeps_after, keeps_tick}
+use Rattle.step_semantics.proofs.Keeping.{keeps_after, keeps_tick}
 use Rattle.run_records.specs.declared.Plain.{Plain}
 use Rattle.run_records.specs.declared.Plain.TheVariants as plain
 use Rattle.area_types.specs.Syntax.{ValueType}
@@ -15,16 +15,15 @@ use Rattle.core_tree.specs.Syntax.{ModuleCore, ExprCore, CallCore, ProcCore, Imp
 use Rattle.core_tree.specs.Environments.{Env, Header, header_of, type_of_plain}
 use Rattle.core_tree.specs.TypedExpressions.{ExprTyped}
 use Rattle.core_tree.specs.TypedCalls.{ArgumentsFit, CallTyped}
-use Rattle.core_tree.specs.TypedItems.{ImportTyped, param_types}
+use Rattle.core_tree.specs.TypedItems.{param_types}
 use Rattle.core_tree.specs.Valid.{ValidCore}
 use Rattle.core_meaning.specs.Values.{Value}
-use Rattle.core_meaning.specs.Areas.{Areas}
 use Rattle.core_meaning.specs.State.{State}
 use Rattle.core_meaning.specs.Checks.{on_some}
 use Rattle.core_meaning.specs.Expressions.{eval, eval_all}
 use Rattle.core_meaning.specs.Imports.{outside}
 use Rattle.core_meaning.specs.Calls.{Calls, called, call}
-use Rattle.region_soundness.specs.Fitting.{Entry, ValueFits}
+use Rattle.region_soundness.specs.Fitting.{Entry}
 use Rattle.region_soundness.specs.Scoped.{AreasFit, GlobalsFirst}
 use Rattle.region_soundness.proofs.Known.{Knows, KnowsOutcome}
 use Rattle.region_soundness.proofs.Lasting.{ValuesFitAll}

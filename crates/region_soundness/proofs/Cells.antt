@@ -1,6 +1,6 @@
 -- Values made of numbers: a value that is filled from numbers fits its type where each number, or zero where there is none, is one of its cell's
 -- type. Zero is a number of each type that an area stores.
-use Rattle.std.proofs.Common.{◌≡◌, ℕ, zero, suc, ◌<◌, ◌≤◌, ℤ, pos, List, [], ◌∷◌, ◌++◌, length, drop, slice_get, get_or, Some, IsTrue, refl, sym, ◌∙◌, ap, subst, arith, le-leb}
+use Rattle.std.proofs.Common.{◌≡◌, ℕ, zero, suc, ◌<◌, ◌≤◌, ℤ, pos, List, [], ◌∷◌, ◌++◌, length, drop, slice_get, get_or, Some, IsTrue, refl, subst, arith, le-leb}
 use Rattle.iv_words.specs.declared.IntKind.{IntKind}
 use Rattle.iv_words.specs.declared.IntKind.TheVariants.{U8, U16, U32, U64, I8, I16, I32, I64}
 use Rattle.iv_words.specs.Kinds.{in_range}

@@ -1,5 +1,5 @@
 -- A well typed expression comes to a value that fits its type, or stops at a check: it is never undefined, and it changes nothing.
-use Rattle.std.proofs.Common.{◌≡◌, ◌⊎◌, ⊎_elim, ℕ, Bool, true, false, not, List, [], ◌∷◌, ◌++◌, Option, Some, None, Ok, IsTrue, refl, sym, ◌∙◌, ap, subst}
+use Rattle.std.proofs.Common.{◌≡◌, ⊎_elim, ℕ, Bool, true, false, not, List, [], ◌∷◌, ◌++◌, Option, Some, None, Ok, IsTrue, refl, sym, ap, subst}
 use Rattle.std.specs.Prelude.{pos}
 use Rattle.std.proofs.lemmas.Option.{slice_get_within}
 use Rattle.step_semantics.specs.Steps.{World, Part, give, bind, tick}
@@ -22,13 +22,11 @@ use Rattle.core_tree.specs.TypedExpressions.{ExprTyped, AreaNameTyped, BinaryTyp
 use Rattle.core_tree.specs.Valid.{ValidCore}
 use Rattle.core_meaning.specs.Values.{Value, Num, Ref}
 use Rattle.core_meaning.specs.State.{State, value_of}
-use Rattle.core_meaning.specs.Checks.{on_some}
 use Rattle.core_meaning.specs.Answers.{operator_of, operation, prefix_operation, cast_to, index_to, wrapped_to, layout_of, field_set}
 use Rattle.core_meaning.specs.Expressions.{of_numbers, prefixed, combined, field_behind, eval}
 use Rattle.region_soundness.specs.Fitting.{Entry, Refers, ValueFits}
 use Rattle.region_soundness.proofs.Known.{Knows, KnowsOutcome}
-use Rattle.region_soundness.proofs.Forms as forms
-use Rattle.region_soundness.proofs.Forms.{Gave, gave_after, some_safe, number_safe, reference_safe, of_number_safe, of_numbers_safe, negated_safe, choice_safe, name_safe, number_behind_safe, element_safe, deeper}
+use Rattle.region_soundness.proofs.Forms.{Gave, gave_after, some_safe, of_number_safe, of_numbers_safe, negated_safe, choice_safe, name_safe, number_behind_safe, element_safe, deeper}
 use Rattle.region_soundness.proofs.Plain.{number_plain, operation_plain, prefix_plain, same_plain, field_plain}
 use Rattle.source_types.specs.Operators.{is_logic}
 use Rattle.region_soundness.proofs.Rows.{prefix_of, operator_answers, prefix_answers, logical_types, negated_types}

@@ -1,7 +1,6 @@
 -- The first state of a module is scoped: each area of the module has its number, and a first value for each cell.
-use Rattle.std.proofs.Common.{◌≡◌, ℕ, zero, suc, ◌<◌, ◌≤◌, List, [], ◌∷◌, map, length, Option, Some, None, All, IsTrue, refl, sym, ◌∙◌, ap, subst, arith}
-use Rattle.std.specs.Prelude.{slice_get}
-use Rattle.std.specs.Option.{option_map, option_and_then}
+use Rattle.std.proofs.Common.{◌≡◌, ℕ, zero, suc, List, [], ◌∷◌, map, Some, All, refl, ◌∙◌, ap, subst, arith}
+use Rattle.std.specs.Option.{option_map}
 use Rattle.std.proofs.lemmas.Option.{slice_get-map}
 use Rattle.std.proofs.lemmas.List.Elements.{All-head, All-tail}
 use Rattle.area_types.specs.Tables.{written_out}
@@ -9,7 +8,7 @@ use Rattle.type_trees.specs.Trees.{scalars}
 use Rattle.core_tree.specs.Syntax.{ModuleCore, AreaCore}
 use Rattle.core_tree.specs.TypedItems.{AreaTyped}
 use Rattle.core_tree.specs.Valid.{ValidCore}
-use Rattle.core_meaning.specs.Areas.{Area, AreaState, Live, in_map, area_at, filled}
+use Rattle.core_meaning.specs.Areas.{Area, area_at, filled}
 use Rattle.core_meaning.specs.State.{first_area, first_state}
 use Rattle.region_soundness.specs.Scoped.{HeldFits, AreasFit, GlobalsFirst}
 use Rattle.region_soundness.specs.Laws.{FirstStatesAreScoped}

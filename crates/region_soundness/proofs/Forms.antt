@@ -1,20 +1,16 @@
 -- Forms of expressions: where their operands come to values that fit their types, so do they, or a check stops them.
-use Rattle.std.proofs.Common.{◌≡◌, ⊎_elim, ℕ, zero, suc, ℤ, Bool, true, false, ◌||◌, not, List, [], ◌∷◌, ◌++◌, length, Option, Some, None, Ok, Err, Contains, IsTrue, refl, sym, ◌∙◌, ap, subst}
+use Rattle.std.proofs.Common.{◌≡◌, ℕ, ℤ, Bool, true, false, ◌||◌, not, List, [], ◌∷◌, ◌++◌, length, Option, Some, None, Ok, Err, IsTrue, refl, sym, ◌∙◌, ap, subst}
 use Rattle.std.specs.Prelude.{◌<◌, pos, negsuc, int_le, int_lt, unsigned_abs, if◌then◌else◌, is_some, slice_get}
 use Rattle.std.specs.List.{list_any}
 use Rattle.std.specs.Option.{option_and_then}
-use Rattle.std.proofs.lemmas.Option.{slice_get_within}
 use Rattle.step_semantics.specs.Steps.{World, FailedCheck, Progress, Part, give, halt, after, bind, tick, by_state}
 use Rattle.step_semantics.specs.Safe.{HasMeaning, Safe}
 use Rattle.step_semantics.proofs.Keeping.{keeps_after, keeps_tick}
 use Rattle.int_ops.specs.Operators.{truth}
-use Rattle.ivory_tree.specs.declared.BinOp.{BinOp}
-use Rattle.ivory_tree.specs.declared.BinOp.TheVariants.{OrElse, AndAlso, Or, Xor, And, Eq, Ne, Lt, Le, Gt, Ge, Shl, Shr, Add, Sub, WrapAdd, WrapSub, Mul, Div, Rem, WrapMul}
-use Rattle.ivory_tree.specs.declared.PrefixOp.TheVariants.{Neg, Not, Flip, Deref}
 use Rattle.index_types.specs.Indices.{is_index}
 use Rattle.area_types.proofs.Truths.{both, is_below}
 use Rattle.type_trees.specs.Trees.{Leaf, part}
-use Rattle.type_trees.specs.Values.{Cell, at}
+use Rattle.type_trees.specs.Values.{at}
 use Rattle.area_types.specs.Syntax as types
 use Rattle.area_types.specs.Syntax.{ValueType, Truth}
 use Rattle.area_types.specs.Tables.{written_out}
@@ -23,19 +19,17 @@ use Rattle.area_types.specs.declared.region.Region.{Region}
 use Rattle.area_types.specs.Trees.{Written}
 use Rattle.core_tree.specs.declared.Check.{Check}
 use Rattle.core_tree.specs.declared.SiteKind.{SiteKind}
-use Rattle.core_tree.specs.Syntax.{ModuleCore, Label, ExprCore, type_of, AreaCore}
-use Rattle.core_tree.specs.Syntax.{Number, Outcome, Local, AreaName, Cast, ToIndex, WrapIndex, MakeBits, Raw, SetField, Prefix, Binary, Field, Element, Cond, Whole}
+use Rattle.core_tree.specs.Syntax.{ModuleCore, Label}
 use Rattle.core_tree.specs.Types.{is_value}
-use Rattle.core_tree.specs.TypedExpressions.{ExprTyped, AreaNameTyped, BinaryTyped, DerefTyped, StructFieldTyped, BitFieldTyped, ElementTyped}
+use Rattle.core_tree.specs.TypedExpressions.{DerefTyped, ElementTyped}
 use Rattle.core_meaning.specs.Values.{Value, Num, Ref}
-use Rattle.core_meaning.specs.Areas.{Area, Areas, Live, in_map, area_at, type_at, held_at, number_at, number_in}
-use Rattle.core_meaning.specs.State.{State, value_of, seen}
+use Rattle.core_meaning.specs.Areas.{Area, Live, in_map, area_at, type_at, held_at, number_at, number_in}
+use Rattle.core_meaning.specs.State.{State, seen}
 use Rattle.core_meaning.specs.Checks.{lost, formless, passes, Answer, same_kind, covered, tests_of, answered, answering, on_number, on_truth, on_reference, on_some}
-use Rattle.core_meaning.specs.Answers.{operator_of, operation, prefix_operation, cast_to, index_to, wrapped_to, layout_of, field_set}
-use Rattle.core_meaning.specs.Expressions.{found, read_name, of_number, of_numbers, negated, number_behind, choice, field_behind, element_behind, eval}
+use Rattle.core_meaning.specs.Expressions.{found, read_name, of_number, of_numbers, negated, number_behind, choice, element_behind}
 use Rattle.core_meaning.specs.Gives.{is_true}
 use Rattle.region_soundness.specs.Fitting.{Entry, Allows, Refers, RefersAs, ValueFits}
-use Rattle.region_soundness.specs.Scoped.{HeldFits, AreasFit, GlobalsFirst, Activation, NamesFit, NameFits}
+use Rattle.region_soundness.specs.Scoped.{AreasFit}
 use Rattle.region_soundness.proofs.Answered.{Answered, AnswersOne, AnswersTwo}
 use Rattle.region_soundness.proofs.Trees.{part_held, leaf_number}
 use Rattle.region_soundness.proofs.Structs.{element_part}

@@ -1,5 +1,5 @@
 -- Calls of imports: the outside sees what is there, and what it replies fits the result and the areas that it may write.
-use Rattle.std.proofs.Common.{◌≡◌, ℕ, zero, suc, ℤ, pos, negsuc, List, [], ◌∷◌, ◌++◌, drop, slice_get, Option, Some, None, All, IsTrue, ◌&&◌, true, false, refl, sym, ◌∙◌, ap, subst, arith}
+use Rattle.std.proofs.Common.{◌≡◌, ℕ, zero, suc, ℤ, pos, negsuc, List, [], ◌∷◌, ◌++◌, Option, Some, None, All, IsTrue, ◌&&◌, true, false, refl, sym, ◌∙◌, ap, subst, arith}
 use Rattle.std.specs.Prelude.{int_le}
 use Rattle.std.specs.List.{list_all, flat_map}
 use Rattle.std.specs.Option.{option_to_list, option_map, option_and_then}
@@ -15,7 +15,7 @@ use Rattle.step_semantics.specs.Imports.{import_call}
 use Rattle.step_semantics.specs.Safe.{HasMeaning, Safe}
 use Rattle.step_semantics.proofs.Keeping.{Given, keeps_after, keeps_tick, keeps_import_call}
 use Rattle.index_types.specs.Indices.{is_index}
-use Rattle.type_trees.specs.Trees.{count, scalars, part}
+use Rattle.type_trees.specs.Trees.{count, scalars}
 use Rattle.type_trees.specs.Values.{at, cells}
 use Rattle.type_trees.proofs.Scalars.{length_scalars}
 use Rattle.area_types.specs.Syntax as types
@@ -33,13 +33,13 @@ use Rattle.core_tree.specs.Types.{is_value}
 use Rattle.core_tree.specs.Environments.{type_of_plain}
 use Rattle.core_tree.specs.TypedItems.{ImportTyped, is_given_plain}
 use Rattle.core_tree.specs.TypedCalls.{ArgumentsFit}
-use Rattle.source_types.specs.Values.{is_plain, is_truth, is_integer}
+use Rattle.source_types.specs.Values.{is_plain}
 use Rattle.core_meaning.specs.Values.{Value, Num, Ref}
-use Rattle.core_meaning.specs.Areas.{Area, Areas, Live, in_map, area_at, type_at, held_at, cells_at, put_at, filled}
+use Rattle.core_meaning.specs.Areas.{Area, Areas, area_at, type_at, cells_at, filled}
 use Rattle.core_meaning.specs.State.{State, seen}
 use Rattle.core_meaning.specs.Checks.{on_some}
 use Rattle.core_meaning.specs.Imports.{piece_of, pieces_of, writable, scalars_of, plains_of, reply_shape, behind, written, all_written, result_in, cells_in, after_reply, asking, outside}
-use Rattle.region_soundness.specs.Fitting.{Entry, Refers, RefersAs, ValueFits}
+use Rattle.region_soundness.specs.Fitting.{Entry, RefersAs, ValueFits}
 use Rattle.region_soundness.specs.Scoped.{AreasFit}
 use Rattle.region_soundness.proofs.Trees.{part_held}
 use Rattle.region_soundness.proofs.Lasting.{Lasting, lasting_refl, lasting_trans, put_lasts, put_areas_fit, ValuesFitAll, values_last, there, leads_to}

@@ -1,11 +1,11 @@
 -- First values of local areas: where the expressions of an initializer give numbers of their types, the value fits the area.
-use Rattle.std.proofs.Common.{◌≡◌, ℕ, zero, suc, ◌+◌, ◌<◌, ◌≤◌, ℤ, List, [], ◌∷◌, ◌++◌, length, map, slice_get, Option, Some, None, IsTrue, refl, sym, ◌∙◌, ap, subst, arith, if◌then◌else◌}
+use Rattle.std.proofs.Common.{◌≡◌, ℕ, zero, suc, ◌+◌, ℤ, List, [], ◌∷◌, length, slice_get, Option, Some, None, IsTrue, refl, sym, ◌∙◌, ap, subst, arith, if◌then◌else◌}
 use Rattle.std.specs.List.{list_all}
 use Rattle.std.specs.Option.{option_map, option_and_then}
 use Rattle.std.proofs.lemmas.Bool.{lt-ltb, le-ltb}
 use Rattle.std.proofs.lemmas.Option.{slice_get-map}
 use Rattle.step_semantics.specs.Steps.{World, Part, give, bind}
-use Rattle.step_semantics.specs.Safe.{HasMeaning, Safe}
+use Rattle.step_semantics.specs.Safe.{Safe}
 use Rattle.type_trees.specs.Trees as trees
 use Rattle.type_trees.specs.Trees.{repeated}
 use Rattle.type_trees.specs.Values as tree
@@ -13,12 +13,12 @@ use Rattle.type_trees.specs.Values.{Cell, Parts, Nil, Cons, EachOf, FitsRow}
 use Rattle.area_types.specs.Syntax as types
 use Rattle.area_types.specs.Syntax.{ValueType, Area, StructType}
 use Rattle.area_types.specs.View.{struct_of}
-use Rattle.area_types.specs.Tables.{Table, structs_of, written_out, is_length, is_stored, is_made_of, is_field, has_index_lengths}
-use Rattle.area_types.specs.Trees.{Written, WrittenRow, tree_of, fields_from, fields_of, trees_of}
+use Rattle.area_types.specs.Tables.{Table, structs_of, written_out, is_stored, is_field}
+use Rattle.area_types.specs.Trees.{Written, WrittenRow, fields_from, fields_of, trees_of}
 use Rattle.area_types.specs.declared.structs.StructDef.{StructDef}
 use Rattle.area_types.proofs.Truths.{both}
 use Rattle.core_tree.specs.Syntax.{ModuleCore, ExprCore, InitCore, One, Many, InitsCore, NoInits, MoreInits}
-use Rattle.core_tree.specs.Types.{is_value, is_core_area}
+use Rattle.core_tree.specs.Types.{is_core_area}
 use Rattle.core_tree.specs.Environments.{Env, Point, struct_field}
 use Rattle.core_tree.specs.TypedExpressions.{HasType}
 use Rattle.core_tree.specs.TypedInits.{InitTyped, InitsTyped, place}
@@ -28,10 +28,10 @@ use Rattle.core_meaning.specs.Areas.{Held, filled}
 use Rattle.core_meaning.specs.State.{State}
 use Rattle.core_meaning.specs.Checks.{on_number}
 use Rattle.core_meaning.specs.Expressions.{eval}
-use Rattle.core_meaning.specs.Initializers.{field_types, part_types, zeros, init_value, init_values, first_value}
+use Rattle.core_meaning.specs.Initializers.{field_types, zeros, init_value, init_values, first_value}
 use Rattle.region_soundness.specs.Scoped.{HeldFits}
 use Rattle.region_soundness.proofs.Trees.{Holds}
-use Rattle.region_soundness.proofs.Structs.{TableFits, Made, StructThere, core_area_made, element_made, field_is_made, made_struct, made_zeros_fit}
+use Rattle.region_soundness.proofs.Structs.{TableFits, Made, core_area_made, element_made, field_is_made, made_struct, made_zeros_fit}
 use Rattle.region_soundness.proofs.Parts.{Steady, NumberOf, steady_after, on_number_safe}
 
 -- ---- values in a row

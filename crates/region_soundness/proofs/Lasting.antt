@@ -11,7 +11,7 @@ use Rattle.core_tree.specs.Syntax.{ModuleCore, AreaCore}
 use Rattle.core_meaning.specs.Values.{Value, Num, Ref}
 use Rattle.core_meaning.specs.Areas.{Held, Area, AreaState, Live, Marked, Gone, Areas, in_map, area_at, type_at, from_place, with_part, put_part, put_at, marked, mark_from, take_from}
 use Rattle.region_soundness.specs.Fitting.{Entry, Refers, RefersAs, ValueFits}
-use Rattle.region_soundness.specs.Scoped.{HeldFits, AreasFit, IsGlobal, GlobalsFirst, NameFits, NamesFit, Activation}
+use Rattle.region_soundness.specs.Scoped.{HeldFits, AreasFit, IsGlobal, GlobalsFirst, NamesFit, Activation}
 use Rattle.region_soundness.proofs.Trees.{put_fits}
 
 -- as live as before, with the same type and access

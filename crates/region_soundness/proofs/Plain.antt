@@ -1,5 +1,5 @@
 -- Types of operands that are no references'.
-use Rattle.std.proofs.Common.{◌≡◌, ℤ, Bool, true, false, ◌||◌, if◌then◌else◌, Option, Some, None, IsTrue, refl, ap, sym, ◌∙◌, subst}
+use Rattle.std.proofs.Common.{◌≡◌, ℤ, Bool, true, false, ◌||◌, if◌then◌else◌, Some, None, IsTrue, refl, ap, ◌∙◌}
 use Rattle.int_ops.specs.declared.Op.{Op}
 use Rattle.bit_data.specs.declared.FieldBits.{FieldBits}
 use Rattle.area_types.specs.Syntax as types

@@ -1,11 +1,11 @@
 -- A procedure has a meaning wherever its arguments fit: its body stands in a frame of its own, and what it gives back fits in its caller.
-use Rattle.std.proofs.Common.{◌≡◌, ◌⊎◌, ⊎_elim, inl, inr, ℕ, zero, suc, ◌+◌, ◌<◌, ◌≤◌, Bool, true, false, not, ◌||◌, ◌&&◌, List, [], ◌∷◌, ◌++◌, map, take, length, Option, Some, None, is_none, All, Contains, IsTrue, refl, sym, ◌∙◌, ap, subst, arith, length-append}
-use Rattle.std.specs.Prelude.{slice_get, slice_index_or, get_or, ◌==◌, if◌then◌else◌}
+use Rattle.std.proofs.Common.{◌≡◌, ◌⊎◌, ⊎_elim, inl, inr, ℕ, zero, suc, ◌+◌, ◌<◌, ◌≤◌, Bool, true, false, not, ◌||◌, List, [], ◌∷◌, ◌++◌, take, length, Option, Some, None, is_none, All, Contains, IsTrue, refl, sym, ◌∙◌, ap, subst, arith}
+use Rattle.std.specs.Prelude.{slice_get, ◌==◌, if◌then◌else◌}
 use Rattle.std.specs.Option.{option_map}
 use Rattle.std.proofs.lemmas.Bool.{eqb-true, eq-eqb, false_from_ne_true}
-use Rattle.std.proofs.lemmas.Option.{slice_get_within, slice_get-get_or}
+use Rattle.std.proofs.lemmas.Option.{slice_get_within}
 use Rattle.std.proofs.lemmas.List.Elements.{All-head, All-tail}
-use Rattle.step_semantics.specs.Steps.{World, Part, give, bind}
+use Rattle.step_semantics.specs.Steps.{World, give, bind}
 use Rattle.step_semantics.specs.Control.{Falls, Broke, Returned}
 use Rattle.step_semantics.specs.Frames.{without, pop_frame}
 use Rattle.step_semantics.specs.Safe.{HasMeaning, Safe}
@@ -22,24 +22,24 @@ use Rattle.region_check.specs.Substitutions.{under, applied, escapes}
 use Rattle.core_tree.specs.Syntax.{ModuleCore, ProcCore}
 use Rattle.core_tree.specs.Types.{is_type, Fits}
 use Rattle.core_tree.specs.Falling.{stmts_fall, stmts_break}
-use Rattle.core_tree.specs.Environments.{Env, Point}
+use Rattle.core_tree.specs.Environments.{Env}
 use Rattle.core_tree.specs.TypedCalls.{ArgumentsFit}
 use Rattle.core_tree.specs.TypedItems.{param_types, is_result, below, env_of, start, ProcTyped}
 use Rattle.core_tree.specs.Valid.{ValidCore}
 use Rattle.core_meaning.specs.Values.{Value, Num, Ref}
-use Rattle.core_meaning.specs.Areas.{AreaState, Areas, Gone, take_from}
-use Rattle.core_meaning.specs.State.{Frame, State, numbered, enter, back}
+use Rattle.core_meaning.specs.Areas.{Areas, Gone, take_from}
+use Rattle.core_meaning.specs.State.{State, numbered, enter, back}
 use Rattle.core_meaning.specs.Conditions.{required, ensured}
 use Rattle.core_meaning.specs.Calls.{Calls}
 use Rattle.core_meaning.specs.Statements.{Flow, exec_all}
 use Rattle.core_meaning.specs.Run.{result_of, body_of, procedure_call, with_procedure}
-use Rattle.region_soundness.specs.Fitting.{Entry, Referred, Allows, Refers, RefersAs, ValueFits}
-use Rattle.region_soundness.specs.Scoped.{name_in, NameFits, NamesFit}
-use Rattle.region_soundness.proofs.Known.{Knows, activation}
+use Rattle.region_soundness.specs.Fitting.{Entry, Allows, Refers, RefersAs, ValueFits}
+use Rattle.region_soundness.specs.Scoped.{name_in, NamesFit}
+use Rattle.region_soundness.proofs.Known.{activation}
 use Rattle.region_soundness.proofs.Lasting.{Lasting, ValuesFitAll, take_lasts, take_areas_fit}
 use Rattle.region_soundness.proofs.Conditions.{Same, required_safe, ensured_safe}
 use Rattle.region_soundness.proofs.Calls.{Caller, Called, CallsSafe, ImportsSafe}
-use Rattle.region_soundness.proofs.Standing.{Entered, Stands, Lasts, lasts_refl, ResultFits, name_here, name_past, knows_parameters, result_early, Ended, Came}
+use Rattle.region_soundness.proofs.Standing.{Entered, Stands, ResultFits, name_here, name_past, knows_parameters, result_early, Ended, Came}
 use Rattle.region_soundness.proofs.Statements.{InitsSafe, fits_wanted, after_all, exec_all_safe}
 
 -- ---- arguments

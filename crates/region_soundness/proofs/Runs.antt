@@ -1,17 +1,15 @@
 -- No run is undefined: each entry call is of an exported procedure, whose arguments fit, and leaves the areas as they must be.
-use Rattle.std.proofs.Common.{◌≡◌, ◌⊎◌, ⊎_elim, inl, inr, ℕ, zero, suc, ◌+◌, ◌≤◌, ℤ, Bool, true, false, ◌&&◌, List, [], ◌∷◌, ◌++◌, map, take, length, Option, Some, None, All, IsTrue, refl, sym, ◌∙◌, ap, subst, arith, length-append, append_assoc, append-nil}
+use Rattle.std.proofs.Common.{◌≡◌, ℕ, zero, suc, ℤ, Bool, true, false, ◌&&◌, List, [], ◌∷◌, ◌++◌, map, take, length, Option, Some, None, All, IsTrue, refl, sym, ◌∙◌, ap, subst, arith, length-append, append_assoc}
 use Rattle.std.specs.Prelude.{pos, negsuc, int_le, int_lt, slice_get, if◌then◌else◌}
 use Rattle.std.specs.Option.{option_map, option_and_then}
 use Rattle.std.proofs.lemmas.Bool.{and_from, lt-ltb}
 use Rattle.std.proofs.lemmas.List.Elements.{All-head, All-tail}
 use Rattle.iv_words.specs.Words.{same_word}
-use Rattle.run_records.specs.declared.EntryCall.{EntryCall}
 use Rattle.run_records.specs.declared.Export.{Export}
 use Rattle.run_records.specs.declared.Plain.{Plain}
 use Rattle.run_records.specs.declared.Plain.TheVariants as plain
 use Rattle.run_records.specs.Scripts.{plain_fits, values_fit, export_of, found_fits}
 use Rattle.step_semantics.specs.Steps.{World, Part, bind}
-use Rattle.step_semantics.specs.Bodies.{CallFits}
 use Rattle.step_semantics.specs.Safe.{HasMeaning, Safe}
 use Rattle.step_semantics.proofs.Keeping.{keeps_after}
 use Rattle.step_semantics.proofs.Safety.{run_never_undefined}
@@ -19,7 +17,6 @@ use Rattle.area_types.proofs.Truths.{both, is_at_most}
 use Rattle.area_types.specs.Syntax as types
 use Rattle.area_types.specs.Syntax.{ValueType, Name}
 use Rattle.area_types.specs.Tables.{Table}
-use Rattle.area_types.specs.declared.region.Region.{Region}
 use Rattle.area_types.specs.declared.region.Region.TheVariants.{Global}
 use Rattle.region_check.specs.Substitutions.{applied}
 use Rattle.source_types.specs.Values.{is_plain}
@@ -28,7 +25,7 @@ use Rattle.core_tree.specs.Types.{is_value, Fits}
 use Rattle.core_tree.specs.Exports.{plain_of, plain_params, plain_result, export_as, exports_by, exports_among, exports_of}
 use Rattle.core_tree.specs.TypedCalls.{ArgumentsFit}
 use Rattle.core_tree.specs.TypedItems.{param_types, is_plain_result, ExportTyped, ProcTyped}
-use Rattle.core_tree.specs.Valid.{ValidCore, ProcsTyped}
+use Rattle.core_tree.specs.Valid.{ValidCore}
 use Rattle.core_meaning.specs.Values.{Value, Num, Ref}
 use Rattle.core_meaning.specs.Areas.{Areas}
 use Rattle.core_meaning.specs.State.{State, seen, first_state}
@@ -40,7 +37,7 @@ use Rattle.region_soundness.proofs.Lasting.{ValuesFitAll, globals_last, lasting_
 use Rattle.region_soundness.proofs.Calls.{Caller, Called, CallsSafe, ImportsSafe}
 use Rattle.region_soundness.proofs.Standing.{ResultFits}
 use Rattle.core_tree.specs.Environments.{Env, type_of_plain}
-use Rattle.core_tree.specs.Syntax.{ExprCore, ImportCore, type_of}
+use Rattle.core_tree.specs.Syntax.{ExprCore, type_of}
 use Rattle.area_types.specs.Tables.{is_stored}
 use Rattle.core_tree.specs.TypedItems.{ImportTyped}
 use Rattle.core_tree.specs.TypedExpressions.{HasType}

@@ -1,23 +1,22 @@
 -- What holds of the state at a place of a body, and what a part of the body leaves.
-use Rattle.std.proofs.Common.{◌≡◌, ⊎_elim, ◌⊎◌, inl, inr, ℕ, zero, suc, ◌<◌, ◌≤◌, Bool, true, false, not, cond, List, [], ◌∷◌, length, Option, Some, None, Contains, IsTrue, refl, sym, ◌∙◌, ap, subst, arith, eq-eqb, nat_eq}
+use Rattle.std.proofs.Common.{◌≡◌, ⊎_elim, ◌⊎◌, inl, inr, ℕ, zero, suc, ◌<◌, ◌≤◌, Bool, true, not, cond, List, [], ◌∷◌, length, Option, Some, None, Contains, IsTrue, refl, sym, ◌∙◌, ap, subst, arith, eq-eqb}
 use Rattle.std.specs.Prelude.{slice_get, ◌==◌}
 use Rattle.std.specs.List.{find}
 use Rattle.std.specs.Option.{option_map}
-use Rattle.std.proofs.lemmas.Bool.{eqb-true, eqb-false, true_from_ne_false, false_from_ne_true}
+use Rattle.std.proofs.lemmas.Bool.{eqb-true, false_from_ne_true}
 use Rattle.step_semantics.specs.Control.{Falls, Broke, Returned}
 use Rattle.area_types.specs.Syntax as types
 use Rattle.area_types.specs.Syntax.{ValueType}
-use Rattle.area_types.specs.declared.region.Region.{Region}
 use Rattle.area_types.specs.declared.region.Region.TheVariants.{Global, Param, Own}
 use Rattle.region_check.specs.Calls.{Reference}
 use Rattle.region_check.specs.Substitutions.{escapes}
 use Rattle.core_tree.specs.Syntax.{ModuleCore}
 use Rattle.core_tree.specs.Environments.{Env}
 use Rattle.core_meaning.specs.Values.{Value, Num, Ref}
-use Rattle.core_meaning.specs.Areas.{AreaState, Areas, from_place, marked, mark_from}
+use Rattle.core_meaning.specs.Areas.{AreaState, Areas, from_place, marked}
 use Rattle.core_meaning.specs.State.{State, with_name, leave}
 use Rattle.core_meaning.specs.Statements.{Flow}
-use Rattle.region_soundness.specs.Fitting.{Entry, Referred, Allows, Refers, ValueFits}
+use Rattle.region_soundness.specs.Fitting.{Entry, Referred, Refers, ValueFits}
 use Rattle.region_soundness.specs.Scoped.{AreasFit, NamesFit, NameFits, name_in}
 use Rattle.region_soundness.proofs.Lasting.{Lasting, lasting_refl, lasting_trans, lasting_longer, mark_lasts, mark_areas_fit, names_last, globals_last}
 use Rattle.region_soundness.proofs.Known.{Knows, activation}

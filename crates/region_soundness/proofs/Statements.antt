@@ -1,8 +1,8 @@
 -- A well typed statement has a meaning in each state that stands, and leaves one that stands.
-use Rattle.std.proofs.Common.{◌≡◌, ⊎_elim, ◌⊎◌, inl, inr, ℕ, zero, suc, ℤ, ◌+◌, ◌<◌, ◌≤◌, Bool, true, false, not, ◌||◌, ◌&&◌, List, [], ◌∷◌, ◌++◌, length, Option, Some, None, Contains, IsTrue, refl, sym, ◌∙◌, ap, subst, arith, le-leb, lt-ltb, length-append}
-use Rattle.std.specs.Prelude.{pos, negsuc, pred, unsigned_abs, slice_get, int_le, int_lt, if◌then◌else◌}
+use Rattle.std.proofs.Common.{◌≡◌, ℕ, zero, suc, ℤ, ◌+◌, ◌<◌, ◌≤◌, Bool, true, false, not, ◌||◌, ◌&&◌, List, [], ◌∷◌, ◌++◌, length, Option, Some, None, IsTrue, refl, sym, ◌∙◌, ap, subst, arith, le-leb, lt-ltb}
+use Rattle.std.specs.Prelude.{pos, pred, unsigned_abs, slice_get, int_le, int_lt}
 use Rattle.std.specs.Option.{option_map, option_and_then}
-use Rattle.step_semantics.specs.Steps.{World, Part, give, bind, tick, ticks, by_state, change, block, after}
+use Rattle.step_semantics.specs.Steps.{World, Part, give, bind, tick, ticks, by_state, change, block}
 use Rattle.step_semantics.specs.Control.{Falls, Broke, Returned, also, forever, counted}
 use Rattle.step_semantics.specs.Safe.{HasMeaning, Safe}
 use Rattle.step_semantics.proofs.Keeping.{keeps_weaker, keeps_after, keeps_tick, keeps_ticks, keeps_left, keeps_also, keeps_forever}
@@ -17,7 +17,6 @@ use Rattle.alloc_effects.specs.Permissions.{narrowed}
 use Rattle.area_types.specs.Syntax as types
 use Rattle.area_types.specs.Syntax.{ValueType, Truth}
 use Rattle.area_types.specs.Tables.{Table, is_length, written_out}
-use Rattle.area_types.specs.declared.region.Region.{Region}
 use Rattle.area_types.specs.declared.region.Region.TheVariants.{Own}
 use Rattle.area_types.proofs.Truths.{both, is_at_most}
 use Rattle.region_check.specs.Calls.{Reference, reference_of, may_stand_for}
@@ -33,26 +32,25 @@ use Rattle.core_tree.specs.TypedCalls.{CallTyped}
 use Rattle.area_types.specs.Trees.{Written}
 use Rattle.area_types.proofs.Written.{get_last}
 use Rattle.core_tree.specs.TypedStatements.{StmtTyped, StmtsTyped, IsNext, LetTyped, LetCallTyped, AllocTyped, MayInit, StoreTyped, CopyTyped, LoopTyped, ReturnTyped}
-use Rattle.core_tree.specs.TypedStatements as typed
 use Rattle.core_tree.specs.Valid.{ValidCore}
 use Rattle.core_meaning.specs.Values.{Value, Num, Ref}
-use Rattle.core_meaning.specs.Areas.{Held, Area, AreaState, Live, Areas, in_map, type_at, held_at, put_at}
+use Rattle.core_meaning.specs.Areas.{Held, Area, Live, Areas, type_at, held_at}
 use Rattle.core_meaning.specs.State.{State, with_name, with_area, holding, leave}
-use Rattle.core_meaning.specs.Checks.{on_number, on_reference, on_some, on_truth}
-use Rattle.core_meaning.specs.Expressions.{choice, eval}
+use Rattle.core_meaning.specs.Checks.{on_number, on_reference, on_some}
+use Rattle.core_meaning.specs.Expressions.{eval}
 use Rattle.core_meaning.specs.Initializers.{first_value}
 use Rattle.core_meaning.specs.Conditions.{Ensured, tested}
 use Rattle.core_meaning.specs.Calls.{Calls, call}
-use Rattle.core_meaning.specs.Statements.{Flow, naming, store, copied, copy, turn, returning, exec, exec_all}
-use Rattle.region_soundness.specs.Fitting.{Entry, Allows, Refers, RefersAs, ValueFits}
+use Rattle.core_meaning.specs.Statements.{Flow, naming, store, copy, turn, returning, exec, exec_all}
+use Rattle.region_soundness.specs.Fitting.{Entry, Allows, Refers, ValueFits}
 use Rattle.region_soundness.specs.Scoped.{HeldFits, AreasFit}
-use Rattle.region_soundness.proofs.Known.{Knows, KnowsOutcome}
-use Rattle.region_soundness.proofs.Forms.{index_within, Gave, gave_after, some_safe, number_safe, reference_safe, choice_safe, there}
+use Rattle.region_soundness.proofs.Known.{Knows}
+use Rattle.region_soundness.proofs.Forms.{index_within, Gave, gave_after, some_safe, number_safe, choice_safe, there}
 use Rattle.region_soundness.proofs.Conditions.{Same, tested_safe}
 use Rattle.region_soundness.proofs.Calls.{Caller, Called, CallsSafe, ImportsSafe, value_safe, call_safe}
-use Rattle.region_soundness.proofs.Lasting.{Lasting, lasting_refl, put_lasts, more_lasts, put_areas_fit, more_areas_fit, value_lasts}
+use Rattle.region_soundness.proofs.Lasting.{Lasting, lasting_refl, put_lasts, more_lasts, put_areas_fit, more_areas_fit}
 use Rattle.region_soundness.proofs.Trees.{part_held, leaf_number}
-use Rattle.region_soundness.proofs.Standing.{Entered, Stands, Lasts, lasts_refl, lasts_trans, ResultFits, stands_named, stands_on, stands_further, knows_parameters, Passed, Broken, Ended, Came, BrokenLoop, Turned, came_since, turned_since, came_weaker, left_came, left_turned}
+use Rattle.region_soundness.proofs.Standing.{Entered, Stands, Lasts, lasts_refl, lasts_trans, ResultFits, stands_named, stands_on, stands_further, knows_parameters, Ended, Came, Turned, came_since, turned_since, came_weaker, left_came, left_turned}
 
 -- where a row of statements ends
 abbrev pub after_all : StmtsCore → Point → Point

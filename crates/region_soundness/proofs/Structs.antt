@@ -1,6 +1,6 @@
 -- The areas of a table: a struct stands written out over all structs of the table, its fields and the elements of an array are parts of it and are
 -- made of the table too, and zero is a value of each of their cells.
-use Rattle.std.proofs.Common.{◌≡◌, ℕ, zero, suc, ◌+◌, ◌<◌, ◌≤◌, pos, List, [], ◌∷◌, ◌++◌, map, length, slice_get, get_or, unwrap_or, take, drop, Option, Some, None, Bool, IsTrue, ◌&&◌, refl, sym, ◌∙◌, ap, subst, arith, length-append, take-append-drop, length-take-le, if◌then◌else◌}
+use Rattle.std.proofs.Common.{◌≡◌, ℕ, zero, suc, ◌+◌, ◌<◌, ◌≤◌, List, [], ◌∷◌, ◌++◌, length, slice_get, get_or, unwrap_or, take, drop, Option, Some, None, IsTrue, refl, sym, ◌∙◌, ap, subst, arith, length-append, take-append-drop, length-take-le, if◌then◌else◌}
 use Rattle.std.specs.List.{list_all}
 use Rattle.std.specs.Option.{option_map, option_and_then}
 use Rattle.std.proofs.lemmas.Bool.{lt-ltb}
@@ -13,10 +13,10 @@ use Rattle.type_trees.proofs.Paths.{part_append}
 use Rattle.area_types.specs.Syntax as types
 use Rattle.area_types.specs.Syntax.{ValueType, Area, StructType}
 use Rattle.area_types.specs.View.{struct_of}
-use Rattle.area_types.specs.Tables.{Table, structs_of, written_out, is_table, is_length, is_stored, is_made_of, is_area, is_small, is_field, has_index_lengths, fits_after, fit_after}
-use Rattle.area_types.specs.Trees.{Written, WrittenRow, tree_of, fields_from, fields_of, trees_from, trees_of}
+use Rattle.area_types.specs.Tables.{Table, structs_of, written_out, is_table, is_length, is_made_of, is_area, is_small, is_field, has_index_lengths, fits_after, fit_after}
+use Rattle.area_types.specs.Trees.{Written, tree_of, fields_from, fields_of, trees_from, trees_of}
 use Rattle.area_types.specs.declared.structs.StructDef.{StructDef}
-use Rattle.area_types.proofs.Truths.{both, also, is_below, below_is, is_at_most}
+use Rattle.area_types.proofs.Truths.{both, also, is_below, below_is}
 use Rattle.area_types.proofs.Written.{trees_kept, struct_found}
 use Rattle.area_types.proofs.Sound.{fitting, length-trees_of}
 use Rattle.core_tree.specs.Syntax.{ModuleCore}

@@ -1,5 +1,5 @@
 -- What holds of each valid core: its first state is scoped, and none of its runs is undefined.
-use Rattle.std.specs.Prelude.{ℕ, List, [], length}
+use Rattle.std.specs.Prelude.{[], length}
 use Rattle.run_records.specs.declared.Script.{Script}
 use Rattle.run_records.specs.Scripts.{Fits}
 use Rattle.step_semantics.specs.Safe.{NeverUndefined}

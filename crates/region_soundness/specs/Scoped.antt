@@ -1,6 +1,6 @@
 -- When a state is scoped: its areas hold values of their types, those of the module come first and are live, and each name in scope in each
 -- open call has a value that fits its type.
-use Rattle.std.specs.Prelude.{◌≡◌, ℕ, ℤ, List, [], ◌∷◌, ◌==◌, take, slice_get, Contains, Option, Some, IsTrue}
+use Rattle.std.specs.Prelude.{◌≡◌, ℕ, List, [], ◌∷◌, ◌==◌, take, slice_get, Contains, Option, Some, IsTrue}
 use Rattle.std.specs.List.{find}
 use Rattle.std.specs.Option.{option_map}
 use Rattle.type_trees.specs.Values.{Fits}

@@ -1,6 +1,7 @@
 -- The first state of a module is scoped: each area of the module has its number, and a first value for each cell.
 use Rattle.std.proofs.Common.{◌≡◌, ℕ, zero, suc, List, [], ◌∷◌, map, Some, All, refl, ◌∙◌, ap, subst, arith}
 use Rattle.std.specs.Option.{option_map}
+use Rattle.std.proofs.lemmas.List.{length-map}
 use Rattle.std.proofs.lemmas.Option.{slice_get-map}
 use Rattle.std.proofs.lemmas.List.Elements.{All-head, All-tail}
 use Rattle.area_types.specs.Tables.{written_out}
@@ -39,6 +40,12 @@ pub first_states_are_scoped : FirstStatesAreScoped
 first_states_are_scoped core valid = record {
   areas = first_areas_fit core valid;
   globals = first_globals core;
-  frame = record { names = λ number ty c e. absurd (omega (arith, c.1)); first = refl };
+  frame = record {
+    names = λ number ty c e. absurd (omega (arith, c.1));
+    first = refl;
+    referred = λ j k r. let no : ⊥ = (let e = r.param_is in cc) in absurd no;
+    globals = omega arith;
+    room = omega (arith, length-map core.areas (first_area core));
+  };
   callers = tt;
 }

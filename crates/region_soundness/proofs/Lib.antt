@@ -20,3 +20,4 @@ pub mod Statements
 pub mod Procedures
 pub mod First
 pub mod Runs
+pub mod Scopes

@@ -80,7 +80,7 @@ taken_none : {A : Type 0} (n k : ℕ) → slice_get {X = A} (take n []) k ≡ sl
 taken_none zero k = refl
 taken_none (suc n) k = refl
 
-taken_before : {A : Type 0} (xs : List A) (n k : ℕ) → k < n → slice_get (take n xs) k ≡ slice_get xs k
+pub taken_before : {A : Type 0} (xs : List A) (n k : ℕ) → k < n → slice_get (take n xs) k ≡ slice_get xs k
 taken_before [] n k lt = taken_none n k
 taken_before (x ∷ xs) zero k lt = absurd (omega arith)
 taken_before (x ∷ xs) (suc n) zero lt = refl
@@ -96,7 +96,7 @@ type_kept table n (types.Ref c Global a) h = refl
 type_kept table n (types.Ref c (Param j) a) h = refl
 type_kept table n (types.Ref c Own a) h = let no : ⊥ = cc in absurd no
 
-result_kept : (table : Table) (p : ProcCore) (r : Option ValueType) → IsTrue (is_result table p r) → (t : ValueType) → r ≡ Some t → IsTrue (not (escapes t))
+pub result_kept : (table : Table) (p : ProcCore) (r : Option ValueType) → IsTrue (is_result table p r) → (t : ValueType) → r ≡ Some t → IsTrue (not (escapes t))
 result_kept table p None h t e = let no : ⊥ = cc in absurd no
 result_kept table p (Some u) h t e = let same : u ≡ t = cc in subst (λ x. IsTrue (not (escapes x))) same (type_kept table (region_count 0 (param_types p)) u h)
 

@@ -176,11 +176,11 @@ found_later p rest name values typed no_match h = go p.exported refl
 
 -- ---- entry calls
 
-next_there : {A : Type 0} (xs ys : List A) (x : A) → slice_get (xs ++ x ∷ ys) (length xs) ≡ Some x
+pub next_there : {A : Type 0} (xs ys : List A) (x : A) → slice_get (xs ++ x ∷ ys) (length xs) ≡ Some x
 next_there [] ys x = refl
 next_there (a ∷ xs) ys x = next_there xs ys x
 
-taken_front : {A : Type 0} (xs ys : List A) → take (length xs) (xs ++ ys) ≡ xs
+pub taken_front : {A : Type 0} (xs ys : List A) → take (length xs) (xs ++ ys) ≡ xs
 taken_front [] [] = refl
 taken_front [] (y ∷ ys) = refl
 taken_front (x ∷ xs) ys = ap (λ l. x ∷ l) (taken_front xs ys)
@@ -252,7 +252,7 @@ reply_fits core entry areas None (Some v) h = h
 reply_fits core entry areas (Some t) None h = h
 reply_fits core entry areas (Some t) (Some v) h = plain_result_fits core entry areas t v h
 
-imports_safe : (core : ModuleCore) → ValidCore core → ImportsSafe core
+pub imports_safe : (core : ModuleCore) → ValidCore core → ImportsSafe core
 imports_safe core valid k i e entry s caller regions given fit args fits n w =
     keeps_weaker HasMeaning (Replied core i s) (Called core entry s (option_map type_of_plain i.result)) (outside core i args n w s)
     (λ result u r. record {
@@ -263,7 +263,7 @@ imports_safe core valid k i e entry s caller regions given fit args fits n w =
     })
     (outside_safe core i (all_at (ImportTyped core) core.imports k i valid.imports e) entry s caller.areas regions given args fit fits n w)
 
-inits_safe : (env : Env) → ValidCore env.core → env.outcome ≡ None → (entry : Entry) → InitsSafe env entry
+pub inits_safe : (env : Env) → ValidCore env.core → env.outcome ≡ None → (entry : Entry) → InitsSafe env entry
 inits_safe env valid none entry at s known area is init typed n w = first_value_safe env valid at s numbers area is init typed n w
   where
     numbers : (e : ExprCore) (t : ValueType) → HasType env at.scope e t → IsTrue (is_stored (length env.core.structs.words) t) → (n : ℕ) (w : World) → Safe (Steady s (NumberOf env.core.structs t)) (eval env.core None e n w s)

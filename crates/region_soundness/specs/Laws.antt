@@ -1,14 +1,25 @@
--- What holds of each valid core: its first state is scoped, and none of its runs is undefined.
-use Rattle.std.specs.Prelude.{[], length}
+-- What holds of each valid core: its first state is scoped, each statement of its procedures keeps that, and none of its runs is undefined.
+use Rattle.std.specs.Prelude.{◌≡◌, ℕ, suc, ◌<◌, List, [], ◌∷◌, length, take, slice_get, Contains, Some}
 use Rattle.run_records.specs.declared.Script.{Script}
 use Rattle.run_records.specs.Scripts.{Fits}
-use Rattle.step_semantics.specs.Safe.{NeverUndefined}
+use Rattle.step_semantics.specs.Steps.{World}
+use Rattle.step_semantics.specs.Control.{Falls, Broke, Returned}
+use Rattle.step_semantics.specs.Safe.{Safe, NeverUndefined}
+use Rattle.core_tree.specs.Environments.{Point, after}
 use Rattle.core_tree.specs.Exports.{exports_of}
-use Rattle.core_tree.specs.Syntax.{ModuleCore}
+use Rattle.core_tree.specs.Syntax.{StmtCore, ProcCore, ModuleCore}
+use Rattle.core_tree.specs.TypedItems.{below, env_of}
+use Rattle.core_tree.specs.TypedStatements.{StmtTyped}
 use Rattle.core_tree.specs.Valid.{ValidCore}
-use Rattle.core_meaning.specs.State.{first_state}
-use Rattle.core_meaning.specs.Run.{run_src}
+use Rattle.core_meaning.specs.Calls.{Calls, no_procedures}
+use Rattle.core_meaning.specs.Conditions.{ensured}
+use Rattle.core_meaning.specs.Run.{with_procedure, run_src}
+use Rattle.core_meaning.specs.State.{State, first_state}
+use Rattle.core_meaning.specs.Statements.{Flow, exec}
+use Rattle.region_soundness.specs.Fitting.{Entry}
 use Rattle.region_soundness.specs.Scoped.{Activation, Scoped}
+
+-- ---- first states
 
 -- the outside has no names, and no areas but the module's
 abbrev pub outside : ModuleCore → Activation
@@ -16,6 +27,40 @@ outside core = record { locals = []; scope = []; entry = record { params = []; a
 
 abbrev pub FirstStatesAreScoped : Type 0
 FirstStatesAreScoped = (core : ModuleCore) → ValidCore core → Scoped core (outside core) [] (first_state core)
+
+-- ---- statements
+
+-- more procedures that may be called, from this number on
+abbrev pub calls_among : ModuleCore → Calls → (number : ℕ) → List ProcCore → Calls
+calls_among core calls number [] = calls
+calls_among core calls number (p ∷ ps) = calls_among core (with_procedure core calls number p) (suc number) ps
+
+-- what the procedure of a number may call
+abbrev pub calls_before : ModuleCore → ℕ → Calls
+calls_before core k = calls_among core (no_procedures core) 0 (take k core.procs)
+
+-- a place in the procedure: the locals in scope stand before it in the text, and the parameters are among them
+pub record PlaceIn (p : ProcCore) (at : Point) : Type 0 where
+  pub before : (m : ℕ) → Contains at.scope m → m < at.next
+  pub parameters : (m : ℕ) → Contains (below (length p.params)) m → Contains at.scope m
+
+abbrev pub inside : ProcCore → (scope : List ℕ) → Entry → Activation
+inside p scope entry = record { locals = p.locals; scope = scope; entry = entry }
+
+-- A statement that falls through leaves the names that it brings in scope. One that does not has left its block: none of its names is in scope.
+abbrev pub KeepsScope : ModuleCore → ProcCore → Point → StmtCore → Entry → List Activation → Flow → State → Type 0
+KeepsScope core p at c entry waiting Falls u = Scoped core (inside p (after c at).scope entry) waiting u
+KeepsScope core p at c entry waiting Broke u = Scoped core (inside p [] entry) waiting u
+KeepsScope core p at c entry waiting (Returned result) u = Scoped core (inside p [] entry) waiting u
+
+-- each statement of each procedure, wherever it stands well typed
+abbrev pub StatementsKeepScopes : Type 0
+StatementsKeepScopes =
+    (core : ModuleCore) → ValidCore core → (k : ℕ) (p : ProcCore) → slice_get core.procs k ≡ Some p → (at : Point) (c : StmtCore) → PlaceIn p at → StmtTyped (env_of core (take k core.procs) p) at c
+    → (entry : Entry) (waiting : List Activation) (s : State) → Scoped core (inside p at.scope entry) waiting s → (n : ℕ) (w : World)
+    → Safe (KeepsScope core p at c entry waiting) (exec core (calls_before core k) (ensured core p) c n w s)
+
+-- ---- runs
 
 -- for every script that fits and every number of steps
 abbrev pub RunsAreDefined : Type 0

@@ -1,6 +1,6 @@
 -- When a state is scoped: its areas hold values of their types, those of the module come first and are live, and each name in scope in each
 -- open call has a value that fits its type.
-use Rattle.std.specs.Prelude.{◌≡◌, ℕ, List, [], ◌∷◌, ◌==◌, take, slice_get, Contains, Option, Some, IsTrue}
+use Rattle.std.specs.Prelude.{◌<◌, ◌≤◌, length, ◌≡◌, ℕ, List, [], ◌∷◌, ◌==◌, take, slice_get, Contains, Option, Some, IsTrue}
 use Rattle.std.specs.List.{find}
 use Rattle.std.specs.Option.{option_map}
 use Rattle.type_trees.specs.Values.{Fits}
@@ -12,7 +12,7 @@ use Rattle.core_tree.specs.Types.{is_value}
 use Rattle.core_meaning.specs.Values.{Value}
 use Rattle.core_meaning.specs.Areas.{Held, Area, Areas, Live, area_at}
 use Rattle.core_meaning.specs.State.{Frame, State}
-use Rattle.region_soundness.specs.Fitting.{Entry, ValueFits}
+use Rattle.region_soundness.specs.Fitting.{Entry, Referred, ValueFits}
 
 -- ---- areas
 
@@ -54,9 +54,13 @@ pub record NameFits (core : ModuleCore) (entry : Entry) (areas : Areas) (names :
 abbrev pub NamesFit : ModuleCore → Areas → Activation → List (ℕ × Value) → Type 0
 NamesFit core areas a names = (number : ℕ) (ty : ValueType) → Contains a.scope number → slice_get a.locals number ≡ Some ty → NameFits core a.entry areas names number ty
 
+-- the names have values that fit, and the areas of the module and those to which the arguments referred come before the call's own
 pub record FrameFits (core : ModuleCore) (areas : Areas) (a : Activation) (frame : Frame) : Type 0 where
   pub names : NamesFit core areas a frame.names
   pub first : frame.first ≡ a.entry.first
+  pub referred : (j k : ℕ) → Referred a.entry j k → k < a.entry.first
+  pub globals : length core.areas ≤ a.entry.first
+  pub room : a.entry.first ≤ length areas
 
 -- The frames of calls that wait for another, the nearest first. Each fits the areas that there were when it made its call: those before the
 -- first own area of the call that it made.

@@ -1,10 +1,15 @@
 //! Region soundness: each name in scope has a value of its type, and so no run ends undefined.
 
-ghost use Rattle.region_soundness.specs.Laws.{FirstStatesAreScoped, RunsAreDefined};
+ghost use Rattle.region_soundness.specs.Laws.{FirstStatesAreScoped, StatementsKeepScopes, RunsAreDefined};
 
 /// Before the first entry call each area holds values of its type.
 pub fn first_states_are_scoped()
     ensures { FirstStatesAreScoped }
+{}
+
+/// A well typed statement is never undefined in a scoped state, and leaves a scoped one.
+pub fn statements_keep_scopes()
+    ensures { StatementsKeepScopes }
 {}
 
 /// No run of a script that fits ends undefined, whatever its number of steps.

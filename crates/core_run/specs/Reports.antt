@@ -1,7 +1,9 @@
--- When a sink may be said to have refused the report of a run.
-use Rattle.std.specs.Prelude.{◌≡◌, ℕ, ◌≤◌, Result, Err}
+-- When a run ends with a meaning, and when a sink may be said to have refused its report.
+use Rattle.std.specs.Prelude.{◌≡◌, ◌≢◌, ℕ, ◌≤◌, Result, Err}
 use Rattle.iv_base.specs.Counts.{Rose}
 use Rattle.run_records.specs.declared.End.{End}
+use Rattle.run_records.specs.declared.End.TheVariants.{Undefined}
+use Rattle.run_records.specs.declared.Reason.{Reason}
 use Rattle.core_run.specs.declared.ready.RunError.{RunError}
 use Rattle.core_run.specs.declared.ready.RunError.TheVariants.{SinkFault}
 
@@ -9,3 +11,7 @@ use Rattle.core_run.specs.declared.ready.RunError.TheVariants.{SinkFault}
 pub record HasSinkCause (before now : ℕ) (result : Result End RunError) : Type 0 where
   pub later : before ≤ now
   pub failed : result ≡ Err SinkFault → Rose before now
+
+-- the run has not ended undefined, for whatever reason
+abbrev pub IsDefined : End → Type 0
+IsDefined end = (reason : Reason) → end ≢ Undefined reason

@@ -4,12 +4,14 @@ ghost use Rattle.std.specs.Prelude.{◌≡◌, ◌+◌, if◌then◌else◌, [],
 ghost use Rattle.iv_base.specs.Counts.{capped};
 ghost use Rattle.iv_base.specs.Sinks.{grown, GrewByPrefix};
 ghost use Rattle.iv_script.specs.Report.{report};
+ghost use Rattle.run_records.specs.Scripts.{Fits};
 ghost use Rattle.core_tree.specs.Cores.{core_of};
+ghost use Rattle.core_tree.specs.Exports.{exports_of};
 ghost use Rattle.core_meaning.specs.Run.{run_src};
 ghost use Rattle.core_meaning.specs.State.{seen};
 ghost use Rattle.core_state.specs.State.{state_of};
 ghost use Rattle.run_world.specs.Comes.{shows_areas};
-ghost use Rattle.core_run.specs.Reports.{HasSinkCause};
+ghost use Rattle.core_run.specs.Reports.{HasSinkCause, IsDefined};
 ghost use Rattle.core_run.specs.declared.ready.RunError.TheVariants.{Memory as memory};
 
 use crate::areas::areas_of;
@@ -21,12 +23,13 @@ use core_tree::Core;
 use iv_base::{Sink, SinkFault};
 use iv_script::write_report;
 use iv_words::{Memory, Seq};
+use region_soundness::laws::runs_are_defined;
 use run_records::{AreaCells, End, Outcome, Script};
 use run_world::{World, end_after, shows_areas};
 use std::alloc::Global;
 use std::marker::Model;
 
-/// A core that can be run. Contracts see it as its core.
+/// A core that can be run. Contracts see it as its core, which is valid.
 #[derive(Drop)]
 pub struct Ready {
     program: Program,
@@ -39,13 +42,16 @@ impl Model for Ready {
     ghost use Rattle.core_tree.specs.contracts.CoreExpr as expr;
     ghost use Rattle.core_tree.specs.contracts.CoreInit as init;
     ghost use Rattle.core_tree.specs.contracts.CoreStmt as stmt;
-    ghost use Rattle.core_tree.specs.Cores.{Parts};
+    ghost use Rattle.core_tree.specs.Cores.{Parts, core_of};
+    ghost use Rattle.core_tree.specs.Valid.{ValidCore};
 
     ghost Value = { Parts };
 
     ghost coded = { Prim.hlevel (codes, area.the_row.coded, ty.the_row.coded, expr.the_row.coded, init.the_row.coded, stmt.the_row.coded) };
 
     ghost view = { λ r. r.program };
+
+    ghost invariant = { λ r. ValidCore (core_of r.program) };
 }
 
 /// Why the report of a run was not put whole.
@@ -83,6 +89,7 @@ impl From<SinkFault> for RunError {
 pub fn prepare(alloc: Global, core: Core) -> Result<Ready, Memory>
     ensures { IfOk result (λ r. r ≡ core) }
 {
+    core.is_valid();
     Ok(Ready {
         program: Program::new(alloc, core)?,
     })
@@ -127,7 +134,7 @@ fn outcome_of(alloc: Global, program: &Program, script: &Script, n: u64) -> Resu
 impl Ready {
     /// Runs a script within n steps, from the first state, and puts the report. The core stays as it was.
     ///
-    /// Want of memory comes before anything is put.
+    /// Want of memory comes before anything is put. The run of a script that fits never ends undefined: no reference is read whose area is gone.
     pub fn run<K: Sink>(
         &mut self,
         alloc: Global,
@@ -136,6 +143,7 @@ impl Ready {
         out: &mut K,
     ) -> Result<End, RunError>
         ensures end { IfOk result (λ end. end ≡ (run_src (core_of self.old) script.now n).end) }
+        ensures defined { Fits script.now (exports_of (core_of self.old)) → IfOk result IsDefined }
         ensures held { OnOk result (K.held out.new ≡ grown (K.held out.old) (report (run_src (core_of self.old) script.now n))) }
         ensures taken { OnOk result (K.taken out.new ≡ capped (K.taken out.old + length (report (run_src (core_of self.old) script.now n)))) }
         ensures part { OnErr result (GrewByPrefix (K.held out.old) (K.held out.new) (report (run_src (core_of self.old) script.now n))) }
@@ -143,6 +151,7 @@ impl Ready {
         ensures before { result ≡ Err memory → out.new ≡ out.old }
         ensures same { self.new ≡ self.old }
     {
+        runs_are_defined();
         let outcome = outcome_of(alloc, &self.program, script, n)?;
         write_report(&outcome, out)?;
         Ok(outcome.end)

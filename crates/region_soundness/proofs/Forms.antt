@@ -1,6 +1,6 @@
 -- Forms of expressions: where their operands come to values that fit their types, so do they, or a check stops them.
 use Rattle.std.proofs.Common.{◌≡◌, ℕ, ℤ, Bool, true, false, ◌||◌, not, List, [], ◌∷◌, ◌++◌, length, Option, Some, None, Ok, Err, IsTrue, refl, sym, ◌∙◌, ap, subst}
-use Rattle.std.specs.Prelude.{◌<◌, pos, negsuc, int_le, int_lt, unsigned_abs, if◌then◌else◌, is_some, slice_get}
+use Rattle.std.specs.Prelude.{◌<◌, pos, negsuc, int_le, int_lt, unsigned_abs, if◌then◌else◌, is_some}
 use Rattle.std.specs.List.{list_any}
 use Rattle.std.specs.Option.{option_and_then}
 use Rattle.step_semantics.specs.Steps.{World, FailedCheck, Progress, Part, give, halt, after, bind, tick, by_state}
@@ -23,7 +23,7 @@ use Rattle.core_tree.specs.Syntax.{ModuleCore, Label}
 use Rattle.core_tree.specs.Types.{is_value}
 use Rattle.core_tree.specs.TypedExpressions.{DerefTyped, ElementTyped}
 use Rattle.core_meaning.specs.Values.{Value, Num, Ref}
-use Rattle.core_meaning.specs.Areas.{Area, Live, in_map, area_at, type_at, held_at, number_at, number_in}
+use Rattle.core_meaning.specs.Areas.{type_at, held_at, number_at, number_in}
 use Rattle.core_meaning.specs.State.{State, seen}
 use Rattle.core_meaning.specs.Checks.{lost, formless, passes, Answer, same_kind, covered, tests_of, answered, answering, on_number, on_truth, on_reference, on_some}
 use Rattle.core_meaning.specs.Expressions.{found, read_name, of_number, of_numbers, negated, number_behind, choice, element_behind}
@@ -31,6 +31,7 @@ use Rattle.core_meaning.specs.Gives.{is_true}
 use Rattle.region_soundness.specs.Fitting.{Entry, Allows, Refers, RefersAs, ValueFits}
 use Rattle.region_soundness.specs.Scoped.{AreasFit}
 use Rattle.region_soundness.proofs.Answered.{Answered, AnswersOne, AnswersTwo}
+use Rattle.region_soundness.proofs.Lasting.{there, leads_to}
 use Rattle.region_soundness.proofs.Trees.{part_held, leaf_number}
 use Rattle.region_soundness.proofs.Structs.{element_part}
 
@@ -145,9 +146,6 @@ module _ (core : ModuleCore) (entry : Entry) (s : State) where
       gave_after post Truth (test n w s) (λ x. on_truth core x next) (h n w)
       (λ x fits m z. truth_safe post x next m z fits (λ b. keeps_tick HasMeaning post (if b then first else second) m z s (λ j. if_safe post b first second j z (g j z) (k j z))))
 
-  pub there : (k : ℕ) (a : Area) → slice_get s.areas k ≡ Some (Live a) → area_at s.areas k ≡ Some a
-  there k a e = ap (option_and_then in_map) e
-
   found_safe : (ty : ValueType) (x : Value) → ValueFits core entry s.areas ty x → (n : ℕ) (w : World) → Safe (G ty) (found core s.areas x n w s)
   found_safe ty (Num v) fits n w = record { same = refl; fits = fits }
   found_safe ty (Ref k path) fits n w = go (reference_of ty) refl fits
@@ -155,7 +153,7 @@ module _ (core : ModuleCore) (entry : Entry) (s : State) where
       go : (o : Option Reference) → reference_of ty ≡ o → RefersAs core entry s.areas o k path → Safe (Gave core entry s ty) (found core s.areas (Ref k path) n w s)
       go None e f = absurd f
       go (Some r) e f =
-          let leads : type_at s.areas k path ≡ Some (written_out core.structs r.area) = ap (option_and_then (λ a. part a.ty path)) (ap (option_and_then in_map) f.live) ∙ f.leads in
+          let leads : type_at s.areas k path ≡ Some (written_out core.structs r.area) = leads_to core entry s.areas r k path f in
           if_true_safe (Gave core entry s ty) (is_some (type_at s.areas k path)) (give (Ref k path)) (lost core) n w (ap is_some leads) (record { same = refl; fits = fits })
 
   pub name_safe : (ty : ValueType) (look : State → Option Value) (v : Value) → look s ≡ Some v → ValueFits core entry s.areas ty v → (n : ℕ) (w : World) → Safe (G ty) (read_name core look n w s)
@@ -169,10 +167,10 @@ module _ (core : ModuleCore) (entry : Entry) (s : State) where
       gave_after (G l.ty) from (operand n w s) (λ x. on_reference core x behind) (h n w)
       (λ x fits m z. reference_safe (G l.ty) d.constant d.region (types.Stored l.ty) x behind m z (subst (λ t. ValueFits core entry s.areas t x) d.operand fits)
       (λ k path r.
-      let whole = fit k r.area (there k r.area r.live) in
+      let whole = fit k r.area (there s.areas k r.area r.live) in
       let p = part_held core.structs r.area.ty path (Leaf l.ty) r.area.held r.leads whole in
       let q = leaf_number core.structs l.ty p.0 p.2 in
-      let at_path : held_at s.areas k path ≡ Some p.0 = ap (option_and_then (λ a. at a.held path)) (there k r.area r.live) ∙ p.1 in
+      let at_path : held_at s.areas k path ≡ Some p.0 = ap (option_and_then (λ a. at a.held path)) (there s.areas k r.area r.live) ∙ p.1 in
       let number : number_at s.areas k path ≡ Some q.0 = ap (option_and_then number_in) at_path ∙ ap number_in q.1 in
       some_safe (G l.ty) (number_at s.areas k path) q.0 (λ v. tick (give (Num v))) m z number
       (keeps_tick HasMeaning (G l.ty) (give (Num q.0)) m z s (λ j. record { same = refl; fits = q.2 }))))

@@ -44,7 +44,7 @@ use Rattle.region_soundness.specs.Scoped.{AreasFit}
 use Rattle.region_soundness.proofs.Trees.{part_held}
 use Rattle.region_soundness.proofs.Lasting.{Lasting, lasting_refl, lasting_trans, put_lasts, put_areas_fit, ValuesFitAll, values_last, there, leads_to}
 use Rattle.region_soundness.proofs.Cells.{Gets, gets_front, gets_behind, filled_fits}
-use Rattle.region_soundness.proofs.Parts.{on_some_safe}
+use Rattle.region_soundness.proofs.Forms.{some_safe}
 
 -- ---- what the outside sees
 
@@ -257,5 +257,5 @@ module _ (core : ModuleCore) (i : ImportCore) (typed : ImportTyped core i) (entr
       let pieces = pieces_there core entry s.areas areas_fit given args values in
       let ps = plains_there (given_back core i.params) (all_plain core i.params typed.given) in
       let shaped : reply_shape core i ≡ Some (option_to_list i.result ++ ps.0) = ap (option_map (λ cells. option_to_list i.result ++ cells)) ps.1 in
-      on_some_safe core (Replied core i s) (pieces_of s.areas args) pieces.0 (λ pieces. on_some core (reply_shape core i) (asking core i args pieces)) n w s pieces.1
-      (on_some_safe core (Replied core i s) (reply_shape core i) (option_to_list i.result ++ ps.0) (asking core i args pieces.0) n w s shaped (asking_safe ps.0 ps.1 pieces.0 n w))
+      some_safe core entry s (Replied core i s) (pieces_of s.areas args) pieces.0 (λ pieces. on_some core (reply_shape core i) (asking core i args pieces)) n w pieces.1
+      (some_safe core entry s (Replied core i s) (reply_shape core i) (option_to_list i.result ++ ps.0) (asking core i args pieces.0) n w shaped (asking_safe ps.0 ps.1 pieces.0 n w))

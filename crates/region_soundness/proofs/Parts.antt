@@ -1,5 +1,5 @@
 -- Parts of a run that leave the state as it is: what they give, and how they go on.
-use Rattle.std.proofs.Common.{◌≡◌, ℕ, ℤ, length, Option, Some, IsTrue, refl, sym, subst}
+use Rattle.std.proofs.Common.{◌≡◌, ℕ, ℤ, length, IsTrue, refl, sym, subst}
 use Rattle.step_semantics.specs.Steps.{World, Progress, Part, after}
 use Rattle.step_semantics.specs.Safe.{HasMeaning, Safe}
 use Rattle.step_semantics.proofs.Keeping.{keeps_after}
@@ -11,7 +11,7 @@ use Rattle.core_tree.specs.Types.{is_value}
 use Rattle.core_meaning.specs.Values.{Value, Num, Ref}
 use Rattle.core_meaning.specs.Areas.{Areas}
 use Rattle.core_meaning.specs.State.{State}
-use Rattle.core_meaning.specs.Checks.{on_number, on_some}
+use Rattle.core_meaning.specs.Checks.{on_number}
 use Rattle.region_soundness.specs.Fitting.{Entry, ValueFits}
 
 -- a value with P, in the state s
@@ -21,10 +21,6 @@ Steady s P a u = (u ≡ s) × P a
 pub steady_after : {A B : Type 0} (s : State) (P : A → Type 0) (post : B → State → Type 0) (r : Progress State A) (next : A → Part State B)
     → Safe (Steady s P) r → ((a : A) → P a → (n : ℕ) (w : World) → Safe post (next a n w s)) → Safe post (after r next)
 steady_after s P post r next h f = keeps_after HasMeaning (Steady s P) post r next h (λ a u p n w. subst (λ x. Safe post (next a n w x)) (sym p.0) (f a p.1 n w))
-
-pub on_some_safe : {A B : Type 0} (core : ModuleCore) (post : B → State → Type 0) (o : Option A) (a : A) (next : A → Part State B) (n : ℕ) (w : World) (s : State)
-    → o ≡ Some a → Safe post (next a n w s) → Safe post (on_some core o next n w s)
-on_some_safe core post o a next n w s e h = subst (λ x. Safe post (on_some core x next n w s)) (sym e) h
 
 -- the value is a number of the type
 pub record NumberOf (table : Table) (t : ValueType) (x : Value) : Type 0 where

@@ -7,7 +7,7 @@ use Rattle.step_semantics.specs.Control.{Falls, Broke, Returned, also, forever, 
 use Rattle.step_semantics.specs.Safe.{HasMeaning, Safe}
 use Rattle.step_semantics.proofs.Keeping.{keeps_weaker, keeps_after, keeps_tick, keeps_ticks, keeps_left, keeps_also, keeps_forever}
 use Rattle.step_semantics.proofs.CountedLaws.{keeps_counted}
-use Rattle.type_trees.specs.Trees.{Leaf, nodes, part}
+use Rattle.type_trees.specs.Trees.{Leaf, nodes}
 use Rattle.type_trees.specs.Values.{Cell, at as part_at}
 use Rattle.index_types.specs.Indices.{is_index}
 use Rattle.alloc_effects.specs.declared.allowed.Allowed.{Allowed}
@@ -19,7 +19,7 @@ use Rattle.area_types.specs.Syntax.{ValueType, Truth}
 use Rattle.area_types.specs.Tables.{Table, is_length, written_out}
 use Rattle.area_types.specs.declared.region.Region.TheVariants.{Own}
 use Rattle.area_types.proofs.Truths.{both, is_at_most}
-use Rattle.region_check.specs.Calls.{Reference, reference_of, may_stand_for}
+use Rattle.region_check.specs.Calls.{reference_of, may_stand_for}
 use Rattle.region_check.specs.Substitutions.{applied, escapes}
 use Rattle.core_tree.specs.declared.Check.{Check}
 use Rattle.core_tree.specs.Syntax.{ModuleCore, ExprCore, InitCore, CallCore, StmtCore, StmtsCore, NoStmts, MoreStmts, type_of}
@@ -45,10 +45,10 @@ use Rattle.core_meaning.specs.Statements.{Flow, naming, store, copy, turn, retur
 use Rattle.region_soundness.specs.Fitting.{Entry, Allows, Refers, ValueFits}
 use Rattle.region_soundness.specs.Scoped.{HeldFits, AreasFit}
 use Rattle.region_soundness.proofs.Known.{Knows}
-use Rattle.region_soundness.proofs.Forms.{index_within, Gave, gave_after, some_safe, number_safe, choice_safe, there}
+use Rattle.region_soundness.proofs.Forms.{index_within, Gave, gave_after, some_safe, number_safe, choice_safe}
 use Rattle.region_soundness.proofs.Conditions.{Same, tested_safe}
 use Rattle.region_soundness.proofs.Calls.{Caller, Called, CallsSafe, ImportsSafe, value_safe, call_safe}
-use Rattle.region_soundness.proofs.Lasting.{Lasting, lasting_refl, put_lasts, more_lasts, put_areas_fit, more_areas_fit}
+use Rattle.region_soundness.proofs.Lasting.{there, leads_to, Lasting, lasting_refl, put_lasts, more_lasts, put_areas_fit, more_areas_fit}
 use Rattle.region_soundness.proofs.Trees.{part_held, leaf_number}
 use Rattle.region_soundness.proofs.Standing.{Entered, Stands, Lasts, lasts_refl, lasts_trans, ResultFits, stands_named, stands_on, stands_further, knows_parameters, Ended, Came, Turned, came_since, turned_since, came_weaker, left_came, left_turned}
 
@@ -239,9 +239,6 @@ module _ (env : Env) (valid : ValidCore env.core) (none : env.outcome ≡ None) 
   written_areas at c no_name falls s st k path b held leads fits =
       passed_on at c no_name falls s (holding k path held s) st (record { areas = put_lasts k path held s.areas; first = refl; callers = refl }) (put_areas_fit env.core.structs s.areas k path held b leads fits st.knows.areas) refl
 
-  type_there : (s : State) (r : Reference) (k : ℕ) (path : List ℕ) → Refers env.core entry s.areas r k path → type_at s.areas k path ≡ Some (written_out env.core.structs r.area)
-  type_there s r k path h = ap (option_and_then (λ a. part a.ty path)) (there env.core entry s k h.area h.live) ∙ h.leads
-
   store_safe : (at : Point) (target value : ExprCore) → StoreTyped env at target value → (s : State) → Here at s → (n : ℕ) (w : World) → Safe (After at (Store target value) s) (exec env.core calls ensured (Store target value) n w s)
   store_safe at target value t s st n w =
       let post = After at (Store target value) s in
@@ -254,10 +251,10 @@ module _ (env : Env) (valid : ValidCore env.core) (none : env.outcome ≡ None) 
       stored v fits (Num x) h n w = let no : ⊥ = cc in absurd no
       stored v fits (Ref k path) h n w =
           let post = Came env base entry s at.scope (at.next + 0) true false at.allowed.may_break in
-          let whole = st.knows.areas k h.area (there env.core entry s k h.area h.live) in
+          let whole = st.knows.areas k h.area (there s.areas k h.area h.live) in
           let p = part_held env.core.structs h.area.ty path (Leaf (type_of value)) h.area.held h.leads whole in
           let q = leaf_number env.core.structs (type_of value) p.0 p.2 in
-          let leads = type_there s (record { constant = false; region = t.region; area = types.Stored (type_of value) }) k path h in
+          let leads = leads_to env.core entry s.areas (record { constant = false; region = t.region; area = types.Stored (type_of value) }) k path h in
           let write : ℤ → Part State Flow = λ x. on_reference env.core (Ref k path) (λ k path. by_state (λ s. on_some env.core (type_at s.areas k path) (λ ty. tick (change Falls (holding k path (Cell x)))))) in
           number_safe env.core entry s post (type_of value) v write n w (value_plain env.core.structs (type_of value) q.0 q.2) fits
           (λ x is. some_safe env.core entry s post (type_at s.areas k path) (Leaf (type_of value)) (λ ty. tick (change Falls (holding k path (Cell x)))) n w leads
@@ -277,10 +274,10 @@ module _ (env : Env) (valid : ValidCore env.core) (none : env.outcome ≡ None) 
       moved (Ref k path) h (Ref j from) g n w =
           let post = Came env base entry s at.scope (at.next + 0) true false at.allowed.may_break in
           let ty = written_out env.core.structs t.area in
-          let whole = st.knows.areas j g.area (there env.core entry s j g.area g.live) in
+          let whole = st.knows.areas j g.area (there s.areas j g.area g.live) in
           let p = part_held env.core.structs g.area.ty from ty g.area.held g.leads whole in
-          let leads = type_there s (record { constant = false; region = t.target_region; area = t.area }) k path h in
-          let held_there : held_at s.areas j from ≡ Some p.0 = ap (option_and_then (λ a. part_at a.held from)) (there env.core entry s j g.area g.live) ∙ p.1 in
+          let leads = leads_to env.core entry s.areas (record { constant = false; region = t.target_region; area = t.area }) k path h in
+          let held_there : held_at s.areas j from ≡ Some p.0 = ap (option_and_then (λ a. part_at a.held from)) (there s.areas j g.area g.live) ∙ p.1 in
           some_safe env.core entry s post (type_at s.areas k path) ty (λ ty. on_some env.core (held_at s.areas j from) (λ held. ticks (nodes ty) (change Falls (holding k path held)))) n w leads
           (some_safe env.core entry s post (held_at s.areas j from) p.0 (λ held. ticks (nodes ty) (change Falls (holding k path held))) n w held_there
           (keeps_ticks HasMeaning post (nodes ty) (change Falls (holding k path p.0)) n w s (λ m. written_areas at (Copy target source) refl refl s st k path ty p.0 leads p.2)))

@@ -1,5 +1,5 @@
 -- What the reading of a module text, the search for its first fault and the search for its form say of the text.
-use Rattle.std.proofs.Common.{◌≡◌, ℕ, ◌<◌, ◌≤◌, List, length, Option, Some, None, sym, ap, subst, arith}
+use Rattle.std.proofs.Common.{◌≡◌, ℕ, ◌<◌, ◌≤◌, List, length, Some, None, subst, arith}
 use Rattle.ivory_lexer.specs.Limits.{source_limit}
 use Rattle.ivory_tree.specs.Formed.{Formed}
 use Rattle.ivory_tree.specs.Nodes.{module_nodes, nodes_count}
@@ -20,7 +20,7 @@ use Rattle.ivoryc.specs.Texts.{rule_fault_line}
 use Rattle.core_tree.specs.Syntax.{ModuleCore}
 use Rattle.iv_checker.specs.Answers.{IsCoreOf, IsFaultOf}
 use Rattle.ivoryc.specs.Modules.{IsWellTyped, StandsFor, IsNoModule}
-use Rattle.ivoryc.specs.Headline.{FirstForm, IsOfNoFirstForm}
+use Rattle.ivoryc.specs.Headline.{IsOfNoFirstForm}
 
 -- a text without a first fault is that of a well typed module
 pub keeps_rules : (text : List ℕ) (tree : Module) → Judged text (Reads tree) → first_fault (module_of tree) ≡ None → IsWellTyped text

@@ -1,5 +1,5 @@
 -- Over the texts that stand under the names of its files, a command comes to one answer.
-use Rattle.std.proofs.Common.{◌≡◌, ◌⊎◌, ℕ, ◌<◌, ◌≤◌, List, length, Option, Some, Result, Ok, Err, refl, sym, ◌∙◌, ap, subst, arith}
+use Rattle.std.proofs.Common.{◌≡◌, ℕ, ◌<◌, ◌≤◌, List, length, Option, Some, Result, Ok, Err, refl, sym, ◌∙◌, ap, subst, arith}
 use Rattle.std.specs.Prelude.{IsOk}
 use Rattle.iv_base.specs.Stores.{FileMap}
 use Rattle.iv_words.specs.declared.Span.{Span}

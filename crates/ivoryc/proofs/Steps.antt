@@ -1,7 +1,6 @@
 -- The answers of the steps of a command make up what the command comes to, and those of a call what the call promises.
 use Rattle.std.proofs.Common.{◌≡◌, ℕ, ◌+◌, ◌<◌, ◌≤◌, ◌⊎◌, Bool, true, false, nat_lt, if◌then◌else◌, List, length, Some, None, Result, Ok, Err, refl, sym, ap, subst, inl, inr, arith}
 use Rattle.iv_base.specs.Stores.{FileMap, text_of}
-use Rattle.iv_script.specs.ScriptText.{script_limit}
 use Rattle.ivory_lexer.specs.Limits.{source_limit}
 use Rattle.c_reader.specs.Answers.{text_limit}
 use Rattle.module_text.specs.Verdicts.{Judged}
@@ -21,7 +20,7 @@ use Rattle.ivoryc.specs.Modules.{IsNoModule}
 use Rattle.ivoryc.specs.Allowed.{Answer}
 use Rattle.ivoryc.specs.ModuleAnswers.{Emits, Checks, ListsSites, Measures, not_compiled, not_checked, not_listed}
 use Rattle.ivoryc.specs.RunAnswers.{RunsModule, RunsUnit}
-use Rattle.ivoryc.specs.Answers.{Given, TooLongFor, text_long, script_long, too_large, Comes, emitted, checked, listed, ran, run_too_long, c_ran, c_too_long, measured}
+use Rattle.ivoryc.specs.Answers.{Given, TooLongFor, text_long, script_long, too_large, emitted, checked, listed, ran, run_too_long, c_ran, c_too_long, measured}
 use Rattle.ivoryc.specs.Promise.{ComesTo, IsCommand, Writes, Due, IsAnswered, files_named, files_due, two_due, Promise}
 use Rattle.ivoryc.specs.Steps.{LoadsAtMost, IsWhole, IsTooLong, Loaded, LoadsFor, LoadsBoth, AreWhole, IsScriptTooLong, BothLoaded, Wrote, Does, ComesOver, Performed, Ran, Tells, Reported}
 use Rattle.ivoryc.proofs.ModuleTexts.{no_form_where_long}

@@ -1,5 +1,5 @@
 -- The answers of the steps from a text on make up what came of the text.
-use Rattle.std.proofs.Common.{◌≡◌, ℕ, List, ◌++◌, length, map, Some, None, Result, Ok, Err, refl, sym, ◌∙◌, ap, subst}
+use Rattle.std.proofs.Common.{◌≡◌, ℕ, List, ◌++◌, length, map, Result, Ok, Err, refl, sym, ◌∙◌, ap, subst}
 use Rattle.std.proofs.lemmas.List.{length-map}
 use Rattle.run_records.specs.declared.Export.{Export}
 use Rattle.run_records.specs.declared.Script.{Script}
@@ -27,7 +27,7 @@ use Rattle.ivoryc.specs.declared.refusal.Refusal.TheVariants as refusal
 use Rattle.ivoryc.specs.declared.status.Status.{Status}
 use Rattle.ivoryc.specs.declared.status.Status.TheVariants as status
 use Rattle.ivoryc.specs.Causes.{refusal_of_text, status_of, line_of, answer_of}
-use Rattle.ivoryc.specs.Calls.{SinkSeen, Change, Unchanged, Took, FailedAt}
+use Rattle.ivoryc.specs.Calls.{SinkSeen, Change, Unchanged}
 use Rattle.ivoryc.specs.Texts.{size_text}
 use Rattle.ivoryc.specs.Modules.{StandsFor, IsNoModule}
 use Rattle.ivoryc.specs.Headline.{IsOfNoFirstForm, IsCompiled}

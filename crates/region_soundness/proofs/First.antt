@@ -42,6 +42,9 @@ first_states_are_scoped core valid = record {
   globals = first_globals core;
   frame = record {
     names = λ number ty c e. absurd (omega (arith, c.1));
+    named = λ number v e. let no : ⊥ = cc in absurd no;
+    params = λ k t e. let no : ⊥ = cc in absurd no;
+    args = λ k v e. let no : ⊥ = cc in absurd no;
     first = refl;
     referred = λ j k r. let no : ⊥ = (let e = r.param_is in cc) in absurd no;
     globals = omega arith;

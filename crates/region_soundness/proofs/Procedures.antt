@@ -2,7 +2,7 @@
 use Rattle.std.proofs.Common.{◌≡◌, ◌⊎◌, ⊎_elim, inl, inr, ℕ, zero, suc, ◌+◌, ◌<◌, ◌≤◌, Bool, true, false, not, ◌||◌, List, [], ◌∷◌, ◌++◌, take, length, Option, Some, None, is_none, All, Contains, IsTrue, refl, sym, ◌∙◌, ap, subst, arith}
 use Rattle.std.specs.Prelude.{slice_get, ◌==◌, if◌then◌else◌}
 use Rattle.std.specs.Option.{option_map}
-use Rattle.std.proofs.lemmas.Bool.{eqb-true, eq-eqb, false_from_ne_true}
+use Rattle.std.proofs.lemmas.Bool.{cases_lt, eqb-true, eq-eqb, false_from_ne_true}
 use Rattle.std.proofs.lemmas.Option.{slice_get_within}
 use Rattle.std.proofs.lemmas.List.Elements.{All-head, All-tail}
 use Rattle.step_semantics.specs.Steps.{World, give, bind}
@@ -19,7 +19,8 @@ use Rattle.area_types.specs.declared.region.Region.TheVariants.{Global, Param, O
 use Rattle.region_check.specs.Calls.{reference_of}
 use Rattle.region_check.specs.Found.{region_count}
 use Rattle.region_check.specs.Substitutions.{under, applied, escapes}
-use Rattle.core_tree.specs.Syntax.{ModuleCore, ProcCore}
+use Rattle.core_tree.specs.Syntax.{ModuleCore, ParamCore, ProcCore}
+use Rattle.std.proofs.lemmas.List.{length-map}
 use Rattle.core_tree.specs.Types.{is_type, Fits}
 use Rattle.core_tree.specs.Falling.{stmts_fall, stmts_break}
 use Rattle.core_tree.specs.Environments.{Env}
@@ -69,6 +70,37 @@ numbered_names k (a ∷ args) zero j v e h =
     ap (name_in (numbered k (a ∷ args))) same ∙ name_here (numbered (suc k) args) k a ∙ h
 numbered_names k (a ∷ args) (suc m) j v e h =
     name_past (numbered (suc k) args) k j a (λ same. omega (arith, e, same)) ∙ numbered_names (suc k) args m j v (omega (arith, e)) h
+
+-- each name that a call begins with is one of those numbers
+numbered_within : (k : ℕ) (args : List Value) (j : ℕ) (v : Value) → name_in (numbered k args) j ≡ Some v → j < k + length args
+numbered_within k [] j v e = let no : ⊥ = cc in absurd no
+numbered_within k (a ∷ args) j v e = go (k == j) refl (λ h. numbered_within (suc k) args j v h)
+  where
+    go : (b : Bool) → (k == j) ≡ b → (name_in (numbered (suc k) args) j ≡ Some v → j < suc k + length args) → j < k + length (a ∷ args)
+    go true same later = let at : k ≡ j = eqb-true k j same in omega (arith, at)
+    go false other later =
+        let past : name_in (numbered k (a ∷ args)) j ≡ name_in (numbered (suc k) args) j = name_past (numbered (suc k) args) k j a (λ at. let no : ⊥ = (let yes = eq-eqb k j at in cc) in no) in
+        omega (arith, later (sym past ∙ e))
+
+given_long : (regions : ℕ → Region) (params given : List ValueType) → ArgumentsFit regions params given → length given ≡ length params
+given_long regions [] [] h = refl
+given_long regions [] (t ∷ given) h = absurd h
+given_long regions (p ∷ params) [] h = absurd h
+given_long regions (p ∷ params) (t ∷ given) h = ap suc (given_long regions params given h.1)
+
+args_long : (core : ModuleCore) (entry : Entry) (areas : Areas) (given : List ValueType) (args : List Value) → ValuesFitAll core entry areas given args → length args ≡ length given
+args_long core entry areas [] [] h = refl
+args_long core entry areas [] (v ∷ args) h = absurd h
+args_long core entry areas (t ∷ given) [] h = absurd h
+args_long core entry areas (t ∷ given) (v ∷ args) h = ap suc (args_long core entry areas given args h.1)
+
+below_long : (n : ℕ) → length (below n) ≡ n
+below_long zero = refl
+below_long (suc n) = ap suc (below_long n)
+
+below_has : (n m : ℕ) → m < n → Contains (below n) m
+below_has zero m lt = absurd (omega (arith, lt))
+below_has (suc n) m lt = ⊎_elim (λ less. (let c = below_has n m less in (suc c.0, omega (arith, c.1), c.2))) (λ at_least. (zero, omega (arith, below_long n), let same : n ≡ m = omega (arith, lt, at_least) in same)) (cases_lt m n)
 
 below_low : (n m : ℕ) → Contains (below n) m → m < n
 below_low zero m (k, lt, e) = absurd (omega (arith, lt))
@@ -247,6 +279,8 @@ module _ (core : ModuleCore) (valid : ValidCore core) (imports_safe : ImportsSaf
           below = below_low (length p.params);
           parameters = λ m c. c;
           room = omega arith;
+          named = λ m v e. below_has (length p.params) m (omega (arith, numbered_within 0 args m v e, args_long core entry s.areas given args fits, given_long regions (param_types p) given fit, length-map p.params (λ (x : ParamCore). x.ty)));
+          args = λ m v e. numbered_names 0 args m m v (omega arith) e;
         } in
         keeps_in_frame HasMeaning (Ended env base inner (enter args s)) (Called core entry s (option_map (applied regions) p.result)) (enter args) back (body_of core calls p) n w s
         (returned entry s regions given fit args fits caller) (body_safe inner entered (enter args s) stands n w)

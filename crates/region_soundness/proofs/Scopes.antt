@@ -1,5 +1,5 @@
 -- Scoped states: what an open call does keeps the frames of those that wait for it, and each statement keeps its own.
-use Rattle.std.proofs.Common.{◌≡◌, ℕ, zero, suc, ◌<◌, List, [], ◌∷◌, ◌++◌, length, take, drop, Some, refl, sym, ◌∙◌, ap, subst, arith, length-append, append_assoc, append-nil}
+use Rattle.std.proofs.Common.{Contains, ◌≡◌, ℕ, zero, suc, ◌<◌, List, [], ◌∷◌, ◌++◌, length, take, drop, Some, refl, sym, ◌∙◌, ap, subst, arith, length-append, append_assoc, append-nil}
 use Rattle.std.specs.Prelude.{slice_get}
 use Rattle.std.proofs.lemmas.List.{take-append-drop}
 use Rattle.step_semantics.specs.Control.{Falls, Broke, Returned}
@@ -10,6 +10,7 @@ use Rattle.core_tree.specs.Environments.{Env, after}
 use Rattle.core_tree.specs.Falling.{stmt_falls, stmt_breaks}
 use Rattle.core_tree.specs.TypedItems.{below, env_of, ProcTyped}
 use Rattle.core_tree.specs.Valid.{ValidCore}
+use Rattle.core_meaning.specs.Values.{Value}
 use Rattle.core_meaning.specs.Areas.{Areas}
 use Rattle.core_meaning.specs.Calls.{Calls, no_procedures}
 use Rattle.core_meaning.specs.Conditions.{ensured}
@@ -17,12 +18,12 @@ use Rattle.core_meaning.specs.Run.{with_procedure}
 use Rattle.core_meaning.specs.State.{Frame, State}
 use Rattle.core_meaning.specs.Statements.{Flow, exec}
 use Rattle.region_soundness.specs.Fitting.{Entry}
-use Rattle.region_soundness.specs.Scoped.{Activation, NamesFit, CallersFit, Scoped, AreasFit}
+use Rattle.region_soundness.specs.Scoped.{name_in, Activation, NamesFit, CallersFit, Scoped, AreasFit}
 use Rattle.region_soundness.specs.Laws.{calls_among, calls_before, inside, KeepsScope, StatementsKeepScopes}
 use Rattle.region_soundness.proofs.Lasting.{Lasting, lasting_longer, names_last, globals_last}
 use Rattle.region_soundness.proofs.Calls.{CallsSafe}
 use Rattle.region_soundness.proofs.Conditions.{ensured_safe}
-use Rattle.region_soundness.proofs.Standing.{Stands, Lasts, Came}
+use Rattle.region_soundness.proofs.Standing.{NamesKept, Stands, Lasts, Came}
 use Rattle.region_soundness.proofs.Statements.{exec_safe}
 use Rattle.region_soundness.proofs.Procedures.{taken_before, result_kept, calls_more}
 use Rattle.region_soundness.proofs.Runs.{next_there, taken_front, imports_safe, inits_safe}
@@ -49,6 +50,9 @@ callers_last core before later h first (a ∷ waiting) (x ∷ frames) f =
     let l = lasting_taken first before later h in (
       record {
         names = names_last core (take first before) (take first later) l a x.names f.0.names;
+        named = f.0.named;
+        params = f.0.params;
+        args = f.0.args;
         first = f.0.first;
         referred = f.0.referred;
         globals = f.0.globals;
@@ -79,12 +83,16 @@ module _ (core : ModuleCore) (valid : ValidCore core) where
 
 -- what is kept of the whole stack, where the own frame stands
 module _ (core : ModuleCore) (p : ProcCore) (entry : Entry) (waiting : List Activation) (scope : List ℕ) (s : State) (h : Scoped core (inside p scope entry) waiting s) where
-  scoped_with : (names : List ℕ) (u : State) → Lasts s u → AreasFit core.structs u.areas → NamesFit core u.areas (inside p names entry) u.frames.own.names → Scoped core (inside p names entry) waiting u
-  scoped_with names u l fit named = record {
+  scoped_with : (names : List ℕ) (u : State) → Lasts s u → AreasFit core.structs u.areas → NamesFit core u.areas (inside p names entry) u.frames.own.names → ((m : ℕ) (v : Value) → name_in u.frames.own.names m ≡ Some v → Contains names m)
+      → ((m : ℕ) (v : Value) → slice_get entry.args m ≡ Some v → name_in u.frames.own.names m ≡ Some v) → Scoped core (inside p names entry) waiting u
+  scoped_with names u l fit fits named args = record {
     areas = fit;
     globals = globals_last core s.areas u.areas l.areas h.globals;
     frame = record {
-      names = named;
+      names = fits;
+      named = named;
+      params = h.frame.params;
+      args = args;
       first = l.first ∙ h.frame.first;
       referred = h.frame.referred;
       globals = h.frame.globals;
@@ -93,13 +101,16 @@ module _ (core : ModuleCore) (p : ProcCore) (entry : Entry) (waiting : List Acti
     callers = subst (λ fs. CallersFit core u.areas u.frames.own.first waiting fs) (sym l.callers) (subst (λ k. CallersFit core u.areas k waiting s.frames.callers) (sym l.first) (callers_last core s.areas u.areas l.areas s.frames.own.first waiting s.frames.callers h.callers));
   }
 
-  scoped_without : (u : State) → Lasts s u → AreasFit core.structs u.areas → Scoped core (inside p [] entry) waiting u
-  scoped_without u l fit = scoped_with [] u l fit (λ number ty c e. absurd (omega (arith, c.1)))
+  -- with the names that it found
+  scoped_as : (u : State) → Lasts s u → AreasFit core.structs u.areas → u.frames.own.names ≡ s.frames.own.names → Scoped core (inside p scope entry) waiting u
+  scoped_as u l fit same =
+      scoped_with scope u l fit (subst (NamesFit core u.areas (inside p scope entry)) (sym same) (names_last core s.areas u.areas l.areas (inside p scope entry) s.frames.own.names h.frame.names))
+      (λ m v e. h.frame.named m v (ap (λ xs. name_in xs m) (sym same) ∙ e)) (λ m v e. ap (λ xs. name_in xs m) same ∙ h.frame.args m v e)
 
 pub statements_keep_scopes : StatementsKeepScopes
 statements_keep_scopes core valid k p there at c place typed entry waiting s h n w =
-    keeps_weaker HasMeaning (Came env base entry s (after c at).scope (after c at).next (stmt_falls c) (stmt_breaks c) at.allowed.may_break) (KeepsScope core p at c entry waiting) (exec core (calls_before core k) (ensured core p) c n w s)
-    (λ flow u x. kept flow u x)
+    keeps_weaker HasMeaning (λ flow u. Came env base entry s (after c at).scope (after c at).next (stmt_falls c) (stmt_breaks c) at.allowed.may_break flow u × NamesKept s flow u) (KeepsScope core p at c entry waiting) (exec core (calls_before core k) (ensured core p) c n w s)
+    (λ flow u x. kept flow u x.0 x.1)
     (exec_safe env valid refl (calls_before core k) (before_safe core valid k) (imports_safe core valid) base entry (record { referred = h.frame.referred; globals = h.frame.globals }) (result_kept core.structs p p.result t.result)
     (ensured core p) (λ u result. ensured_safe env valid entry p base t.contracts u result) (inits_safe env valid refl entry) c at typed s stands n w)
   where
@@ -113,9 +124,10 @@ statements_keep_scopes core valid k p there at c place typed entry waiting s h n
     base = below (length p.params)
 
     stands : Stands (env_of core (take k core.procs) p) (below (length p.params)) at.scope at.next entry s
-    stands = record { knows = record { areas = h.areas; globals = h.globals; names = h.frame.names }; below = place.before; parameters = place.parameters; room = h.frame.room }
+    stands = record { knows = record { areas = h.areas; globals = h.globals; names = h.frame.names }; below = place.before; parameters = place.parameters; room = h.frame.room; named = h.frame.named; args = h.frame.args }
 
-    kept : (flow : Flow) (u : State) → Came (env_of core (take k core.procs) p) (below (length p.params)) entry s (after c at).scope (after c at).next (stmt_falls c) (stmt_breaks c) at.allowed.may_break flow u → KeepsScope core p at c entry waiting flow u
-    kept Falls u x = scoped_with core p entry waiting at.scope s h (after c at).scope u x.lasts x.stands.knows.areas x.stands.knows.names
-    kept Broke u x = scoped_without core p entry waiting at.scope s h u x.lasts x.areas
-    kept (Returned result) u x = scoped_without core p entry waiting at.scope s h u x.lasts x.areas
+    kept : (flow : Flow) (u : State) → Came (env_of core (take k core.procs) p) (below (length p.params)) entry s (after c at).scope (after c at).next (stmt_falls c) (stmt_breaks c) at.allowed.may_break flow u → NamesKept s flow u
+        → KeepsScope core p at c entry waiting flow u
+    kept Falls u x same = scoped_with core p entry waiting at.scope s h (after c at).scope u x.lasts x.stands.knows.areas x.stands.knows.names x.stands.named x.stands.args
+    kept Broke u x same = scoped_as core p entry waiting at.scope s h u x.lasts x.areas same
+    kept (Returned result) u x same = scoped_as core p entry waiting at.scope s h u x.lasts x.areas same

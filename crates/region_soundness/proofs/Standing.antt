@@ -1,5 +1,5 @@
 -- What holds of the state at a place of a body, and what a part of the body leaves.
-use Rattle.std.proofs.Common.{◌≡◌, ⊎_elim, ◌⊎◌, inl, inr, ℕ, zero, suc, ◌<◌, ◌≤◌, Bool, true, not, cond, List, [], ◌∷◌, length, Option, Some, None, Contains, IsTrue, refl, sym, ◌∙◌, ap, subst, arith, eq-eqb}
+use Rattle.std.proofs.Common.{◌≡◌, ⊎_elim, ◌⊎◌, inl, inr, ℕ, zero, suc, ◌<◌, ◌≤◌, Bool, true, false, not, cond, List, [], ◌∷◌, length, Option, Some, None, Contains, IsTrue, refl, sym, ◌∙◌, ap, subst, arith, eq-eqb}
 use Rattle.std.specs.Prelude.{slice_get, ◌==◌}
 use Rattle.std.specs.List.{find}
 use Rattle.std.specs.Option.{option_map}
@@ -36,6 +36,8 @@ pub record Stands (env : Env) (base scope : List ℕ) (next : ℕ) (entry : Entr
   pub below : (m : ℕ) → Contains scope m → m < next
   pub parameters : (m : ℕ) → Contains base m → Contains scope m
   pub room : entry.first ≤ length s.areas
+  pub named : (m : ℕ) (v : Value) → name_in s.frames.own.names m ≡ Some v → Contains scope m
+  pub args : (m : ℕ) (v : Value) → slice_get entry.args m ≡ Some v → name_in s.frames.own.names m ≡ Some v
 
 -- the areas of the first state last, and the calls that are open are those of before
 pub record Lasts (s u : State) : Type 0 where
@@ -84,8 +86,14 @@ module _ (env : Env) (base : List ℕ) (entry : Entry) where
     below = λ m c. ⊎_elim (λ same. omega (arith, same)) (λ c'. omega (arith, st.below m c')) (contains_cases next m scope c);
     parameters = λ m c. contains_more next m scope (st.parameters m c);
     room = st.room;
+    named = λ m x e. known m x (next == m) refl e;
+    args = λ m x e. let old = st.args m x e in name_past s.frames.own.names next m v (λ same. omega (arith, st.below m (st.named m x old), same)) ∙ old;
   }
     where
+      known : (m : ℕ) (x : Value) (b : Bool) → (next == m) ≡ b → name_in ((next, v) ∷ s.frames.own.names) m ≡ Some x → Contains (next ∷ scope) m
+      known m x true same e = (zero, omega arith, eqb-true next m same)
+      known m x false other e = contains_more next m scope (st.named m x (sym (name_past s.frames.own.names next m v (λ same. let no : ⊥ = (let yes = eq-eqb next m same in cc) in no)) ∙ e))
+
       here : (m : ℕ) (t : ValueType) → next ≡ m → slice_get env.locals m ≡ Some t → NameFits env.core entry s.areas ((next, v) ∷ s.frames.own.names) m t
       here m t same e =
           let is : ty ≡ t = (let both : Some ty ≡ Some t = sym typed ∙ ap (slice_get env.locals) same ∙ e in cc) in
@@ -107,11 +115,13 @@ module _ (env : Env) (base : List ℕ) (entry : Entry) where
     below = st.below;
     parameters = st.parameters;
     room = omega (arith, st.room, lasting_longer s.areas u.areas l);
+    named = λ m v e. st.named m v (ap (λ xs. name_in xs m) (sym names) ∙ e);
+    args = λ m v e. ap (λ xs. name_in xs m) names ∙ st.args m v e;
   }
 
   -- further on in the text
   pub stands_further : (scope : List ℕ) (next next' : ℕ) (s : State) → next ≤ next' → Stands env base scope next entry s → Stands env base scope next' entry s
-  stands_further scope next next' s le st = record { knows = st.knows; below = λ m c. omega (arith, le, st.below m c); parameters = st.parameters; room = st.room }
+  stands_further scope next next' s le st = record { knows = st.knows; below = λ m c. omega (arith, le, st.below m c); parameters = st.parameters; room = st.room; named = st.named; args = st.args }
 
   -- what is known of the parameters
   pub knows_parameters : (scope : List ℕ) (next : ℕ) (s : State) → Stands env base scope next entry s → Knows env base entry s
@@ -181,6 +191,18 @@ module _ (env : Env) (base : List ℕ) (entry : Entry) (s : State) where
   Turned scope next breaks Falls u = Passed scope next true u
   Turned scope next breaks Broke u = BrokenLoop scope next breaks u
   Turned scope next breaks (Returned result) u = Ended result u
+
+-- a statement that does not fall through leaves the names that it found
+abbrev pub NamesKept : State → Flow → State → Type 0
+NamesKept s Falls u = Unit {0}
+NamesKept s Broke u = u.frames.own.names ≡ s.frames.own.names
+NamesKept s (Returned result) u = u.frames.own.names ≡ s.frames.own.names
+
+-- so does the end of a block
+pub left_names : (s u : State) (flow : Flow) → NamesKept s flow (leave s u)
+left_names s u Falls = tt
+left_names s u Broke = refl
+left_names s u (Returned result) = refl
 
 module _ (env : Env) (base : List ℕ) (entry : Entry) where
   -- from an earlier state

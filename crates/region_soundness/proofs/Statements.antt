@@ -50,7 +50,7 @@ use Rattle.region_soundness.proofs.Conditions.{Same, tested_safe}
 use Rattle.region_soundness.proofs.Calls.{Caller, Called, CallsSafe, ImportsSafe, value_safe, call_safe}
 use Rattle.region_soundness.proofs.Lasting.{there, leads_to, Lasting, lasting_refl, put_lasts, more_lasts, put_areas_fit, more_areas_fit}
 use Rattle.region_soundness.proofs.Trees.{part_held, leaf_number}
-use Rattle.region_soundness.proofs.Standing.{Entered, Stands, Lasts, lasts_refl, lasts_trans, ResultFits, stands_named, stands_on, stands_further, knows_parameters, Ended, Came, Turned, came_since, turned_since, came_weaker, left_came, left_turned}
+use Rattle.region_soundness.proofs.Standing.{NamesKept, left_names, Entered, Stands, Lasts, lasts_refl, lasts_trans, ResultFits, stands_named, stands_on, stands_further, knows_parameters, Ended, Came, Turned, came_since, turned_since, came_weaker, left_came, left_turned}
 
 -- where a row of statements ends
 abbrev pub after_all : StmtsCore → Point → Point
@@ -159,7 +159,7 @@ module _ (env : Env) (valid : ValidCore env.core) (none : env.outcome ≡ None) 
 
   -- what is to be shown of a statement, and of a row of them
   abbrev After : Point → StmtCore → State → Flow → State → Type 0
-  After at c s = Came env base entry s (point_after c at).scope (point_after c at).next (stmt_falls c) (stmt_breaks c) at.allowed.may_break
+  After at c s flow u = Came env base entry s (point_after c at).scope (point_after c at).next (stmt_falls c) (stmt_breaks c) at.allowed.may_break flow u × NamesKept s flow u
 
   abbrev AfterAll : Point → StmtsCore → State → Flow → State → Type 0
   AfterAll at cs s = Came env base entry s (after_all cs at).scope (after_all cs at).next (stmts_fall cs) (stmts_break cs) at.allowed.may_break
@@ -182,13 +182,13 @@ module _ (env : Env) (valid : ValidCore env.core) (none : env.outcome ≡ None) 
   let_safe at number e t s st n w =
       gave_after env.core entry s (After at (Let number e) s) (type_of e) (eval env.core None e n w s) (λ v. tick (naming number v)) (value_safe env valid entry s at.scope st.knows none e t.typed n w)
       (λ v fits m z. keeps_tick HasMeaning (After at (Let number e) s) (naming number v) m z s
-      (λ j. record { reached = refl; lasts = named_lasts number v s; stands = next_named at s number (type_of e) v st t.name fits }))
+      (λ j. (record { reached = refl; lasts = named_lasts number v s; stands = next_named at s number (type_of e) v st t.name fits }, tt)))
 
   called_named : (at : Point) (number : ℕ) (c : CallCore) (ty : ValueType) (s : State) → Here at s → IsNext env at number ty → (result : Option Value) (u : State) → Called env.core entry s (Some ty) result u
       → (n : ℕ) (w : World) → Safe (After at (LetCall number c) s) (on_some env.core result (naming number) n w u)
   called_named at number c ty s st is None u h n w = absurd h.fits
   called_named at number c ty s st is (Some v) u h n w =
-      record { reached = refl; lasts = lasts_trans s u (with_name number v u) h.lasts (named_lasts number v u); stands = next_named at u number ty v (stands_on env base entry at.scope at.next s u st h.lasts.areas h.areas h.names) is h.fits }
+      (record { reached = refl; lasts = lasts_trans s u (with_name number v u) h.lasts (named_lasts number v u); stands = next_named at u number ty v (stands_on env base entry at.scope at.next s u st h.lasts.areas h.areas h.names) is h.fits }, tt)
 
   let_call_safe : (at : Point) (number : ℕ) (c : CallCore) → LetCallTyped env at number c → (s : State) → Here at s → Caller env.core s → (n : ℕ) (w : World) → Safe (After at (LetCall number c) s) (exec env.core calls ensured (LetCall number c) n w s)
   let_call_safe at number c t s st caller n w =
@@ -199,13 +199,15 @@ module _ (env : Env) (valid : ValidCore env.core) (none : env.outcome ≡ None) 
 
   -- nothing has a new name
   passed_on : (at : Point) (c : StmtCore) → named_by c ≡ [] → IsTrue (stmt_falls c) → (s u : State) → Here at s → Lasts s u → AreasFit env.core.structs u.areas → u.frames.own.names ≡ s.frames.own.names → After at c s Falls u
-  passed_on at c no_name falls s u st l fit names =
-      record {
-        reached = falls;
-        lasts = l;
-        stands = subst (λ xs. Stands env base (xs ++ at.scope) (at.next + locals_in c) entry u) (sym no_name)
-            (stands_further env base entry at.scope at.next (at.next + locals_in c) u (omega arith) (stands_on env base entry at.scope at.next s u st l.areas fit names));
-      }
+  passed_on at c no_name falls s u st l fit names = (
+    record {
+      reached = falls;
+      lasts = l;
+      stands = subst (λ xs. Stands env base (xs ++ at.scope) (at.next + locals_in c) entry u) (sym no_name)
+          (stands_further env base entry at.scope at.next (at.next + locals_in c) u (omega arith) (stands_on env base entry at.scope at.next s u st l.areas fit names));
+    },
+    tt,
+  )
 
   call_stmt_safe : (at : Point) (c : CallCore) → CallTyped env at.scope c → (s : State) → Here at s → Caller env.core s → (n : ℕ) (w : World) → Safe (After at (Call c) s) (exec env.core calls ensured (Call c) n w s)
   call_stmt_safe at c t s st caller n w =
@@ -232,7 +234,7 @@ module _ (env : Env) (valid : ValidCore env.core) (none : env.outcome ≡ None) 
           let stands = stands_on env base entry at.scope at.next s u st lasting (more_areas_fit env.core.structs s.areas a st.knows.areas fits) refl in
           let r : Refers env.core entry u.areas (record { constant = false; region = Own; area = area }) (length s.areas) [] =
           record { area = a; live = get_last s.areas (Live a) (length s.areas) refl; leads = refl; access = refl; allowed = st.room } in
-          record { reached = refl; lasts = record { areas = lasting; first = refl; callers = refl }; stands = next_named at u number (types.Ref false Own area) (Ref (length s.areas) []) stands t.name r }
+          (record { reached = refl; lasts = record { areas = lasting; first = refl; callers = refl }; stands = next_named at u number (types.Ref false Own area) (Ref (length s.areas) []) stands t.name r }, tt)
 
   written_areas : (at : Point) (c : StmtCore) → named_by c ≡ [] → IsTrue (stmt_falls c) → (s : State) → Here at s → (k : ℕ) (path : List ℕ) (b : Written) (held : Held) → type_at s.areas k path ≡ Some b → HeldFits env.core.structs b held
       → After at c s Falls (holding k path held s)
@@ -247,10 +249,10 @@ module _ (env : Env) (valid : ValidCore env.core) (none : env.outcome ≡ None) 
       (λ r fits' j q. stored v fits r (subst (λ ty. ValueFits env.core entry s.areas ty r) t.target_is.type fits') j q))
     where
       stored : (v : Value) → ValueFits env.core entry s.areas (type_of value) v → (r : Value) → ValueFits env.core entry s.areas (types.Ref false t.region (types.Stored (type_of value))) r
-          → (n : ℕ) (w : World) → Safe (Came env base entry s at.scope (at.next + 0) true false at.allowed.may_break) (store env.core r v n w s)
+          → (n : ℕ) (w : World) → Safe (After at (Store target value) s) (store env.core r v n w s)
       stored v fits (Num x) h n w = let no : ⊥ = cc in absurd no
       stored v fits (Ref k path) h n w =
-          let post = Came env base entry s at.scope (at.next + 0) true false at.allowed.may_break in
+          let post = After at (Store target value) s in
           let whole = st.knows.areas k h.area (there s.areas k h.area h.live) in
           let p = part_held env.core.structs h.area.ty path (Leaf (type_of value)) h.area.held h.leads whole in
           let q = leaf_number env.core.structs (type_of value) p.0 p.2 in
@@ -268,11 +270,11 @@ module _ (env : Env) (valid : ValidCore env.core) (none : env.outcome ≡ None) 
       (λ from fits' j q. moved r (subst (λ ty. ValueFits env.core entry s.areas ty r) t.target_is.type fits) from (subst (λ ty. ValueFits env.core entry s.areas ty from) t.source_is.type fits') j q))
     where
       moved : (r : Value) → ValueFits env.core entry s.areas (types.Ref false t.target_region t.area) r → (from : Value) → ValueFits env.core entry s.areas (types.Ref t.constant t.source_region t.area) from
-          → (n : ℕ) (w : World) → Safe (Came env base entry s at.scope (at.next + 0) true false at.allowed.may_break) (copy env.core r from n w s)
+          → (n : ℕ) (w : World) → Safe (After at (Copy target source) s) (copy env.core r from n w s)
       moved (Num x) h from g n w = let no : ⊥ = cc in absurd no
       moved (Ref k path) h (Num x) g n w = let no : ⊥ = cc in absurd no
       moved (Ref k path) h (Ref j from) g n w =
-          let post = Came env base entry s at.scope (at.next + 0) true false at.allowed.may_break in
+          let post = After at (Copy target source) s in
           let ty = written_out env.core.structs t.area in
           let whole = st.knows.areas j g.area (there s.areas j g.area g.live) in
           let p = part_held env.core.structs g.area.ty from ty g.area.held g.leads whole in
@@ -284,28 +286,33 @@ module _ (env : Env) (valid : ValidCore env.core) (none : env.outcome ≡ None) 
 
   -- ---- blocks
 
-  block_of : (inner : Point) (next : ℕ) (cs : StmtsCore) (s : State) → Here inner s → inner.next ≤ next → Runs inner cs
-      → (n : ℕ) (w : World) → Safe (Came env base entry s inner.scope next (stmts_fall cs) (stmts_break cs) inner.allowed.may_break) (block leave (exec_all env.core calls ensured cs) n w s)
+  abbrev Left : Point → (next : ℕ) → StmtsCore → State → Flow → State → Type 0
+  Left inner next cs s flow u = Came env base entry s inner.scope next (stmts_fall cs) (stmts_break cs) inner.allowed.may_break flow u × NamesKept s flow u
+
+  block_of : (inner : Point) (next : ℕ) (cs : StmtsCore) (s : State) → Here inner s → inner.next ≤ next → Runs inner cs → (n : ℕ) (w : World) → Safe (Left inner next cs s) (block leave (exec_all env.core calls ensured cs) n w s)
   block_of inner next cs s st le h n w =
-      keeps_left HasMeaning (AfterAll inner cs s) (Came env base entry s inner.scope next (stmts_fall cs) (stmts_break cs) inner.allowed.may_break) leave s (exec_all env.core calls ensured cs n w s)
-      (λ flow u c. left_came env base entry entered kept inner.scope inner.next next le s st (after_all cs inner).scope (after_all cs inner).next (stmts_fall cs) (stmts_break cs) inner.allowed.may_break flow u c) (h s st n w)
+      keeps_left HasMeaning (AfterAll inner cs s) (Left inner next cs s) leave s (exec_all env.core calls ensured cs n w s)
+      (λ flow u c. (left_came env base entry entered kept inner.scope inner.next next le s st (after_all cs inner).scope (after_all cs inner).next (stmts_fall cs) (stmts_break cs) inner.allowed.may_break flow u c, left_names s u flow)) (h s st n w)
 
   -- such a block as a part of a statement
   block_in : (at : Point) (c : StmtCore) (inner : Point) (cs : StmtsCore) (s : State) → named_by c ≡ [] → inner.scope ≡ at.scope → Here inner s → inner.next ≤ at.next + locals_in c
       → (IsTrue (stmts_fall cs) → IsTrue (stmt_falls c)) → (IsTrue (stmts_break cs) → IsTrue (stmt_breaks c)) → (IsTrue inner.allowed.may_break → IsTrue at.allowed.may_break) → Runs inner cs
       → (n : ℕ) (w : World) → Safe (After at c s) (block leave (exec_all env.core calls ensured cs) n w s)
   block_in at c inner cs s no_name same st le f b m h n w =
-      keeps_weaker HasMeaning (Came env base entry s inner.scope (at.next + locals_in c) (stmts_fall cs) (stmts_break cs) inner.allowed.may_break) (After at c s) (block leave (exec_all env.core calls ensured cs) n w s)
-      (λ flow u x. subst (λ xs. Came env base entry s (xs ++ at.scope) (at.next + locals_in c) (stmt_falls c) (stmt_breaks c) at.allowed.may_break flow u) (sym no_name)
-      (subst (λ xs. Came env base entry s xs (at.next + locals_in c) (stmt_falls c) (stmt_breaks c) at.allowed.may_break flow u) same
-      (came_weaker env base entry s inner.scope (at.next + locals_in c) (stmts_fall cs) (stmts_break cs) inner.allowed.may_break (stmt_falls c) (stmt_breaks c) at.allowed.may_break flow u f b m x)))
+      keeps_weaker HasMeaning (Left inner (at.next + locals_in c) cs s) (After at c s) (block leave (exec_all env.core calls ensured cs) n w s)
+      (λ flow u x. (
+        subst (λ xs. Came env base entry s (xs ++ at.scope) (at.next + locals_in c) (stmt_falls c) (stmt_breaks c) at.allowed.may_break flow u) (sym no_name)
+            (subst (λ xs. Came env base entry s xs (at.next + locals_in c) (stmt_falls c) (stmt_breaks c) at.allowed.may_break flow u) same
+            (came_weaker env base entry s inner.scope (at.next + locals_in c) (stmts_fall cs) (stmts_break cs) inner.allowed.may_break (stmt_falls c) (stmt_breaks c) at.allowed.may_break flow u f b m x.0)),
+        x.1,
+      ))
       (block_of inner (at.next + locals_in c) cs s st le h n w)
 
   -- ---- loops
 
   -- what is kept from turn to turn: at its start each turn finds what the loop's start found
   abbrev Turns : Point → StmtsCore → State → Flow → State → Type 0
-  Turns at cs s = Turned env base entry s at.scope at.next (stmts_break cs)
+  Turns at cs s flow u = Turned env base entry s at.scope at.next (stmts_break cs) flow u × (u.frames.own.names ≡ s.frames.own.names)
 
   turn_safe : (at : Point) (number length i : ℕ) (cs : StmtsCore) → LoopTyped env at number length → i < length → (s : State) → Here at s → Runs (within_loop number at) cs
       → (n : ℕ) (w : World) → Safe (Turns at cs s) (turn number (exec_all env.core calls ensured cs) i n w s)
@@ -316,7 +323,7 @@ module _ (env : Env) (valid : ValidCore env.core) (none : env.outcome ≡ None) 
       let body = exec_all env.core calls ensured cs in
       let named : mid Falls (with_name number (Num (pos i)) s) = record { reached = refl; lasts = named_lasts number (Num (pos i)) s; stands = next_named at s number (types.Ix length) (Num (pos i)) st t.name (index_below length i lt) } in
       keeps_left HasMeaning post (Turns at cs s) leave s (also (naming number (Num (pos i))) body n w s)
-      (λ flow u c. left_turned env base entry entered kept at.scope at.next at.next (omega arith) s st (after_all cs inner).scope (after_all cs inner).next (stmts_fall cs) (stmts_break cs) inner.allowed.may_break flow u c)
+      (λ flow u c. (left_turned env base entry entered kept at.scope at.next at.next (omega arith) s st (after_all cs inner).scope (after_all cs inner).next (stmts_fall cs) (stmts_break cs) inner.allowed.may_break flow u c, refl))
       (keeps_also HasMeaning mid post (naming number (Num (pos i))) body n w s named
       (λ u p m z. keeps_weaker HasMeaning (AfterAll inner cs u) post (body m z u)
       (λ flow v c. came_since env base entry s u (after_all cs inner).scope (after_all cs inner).next (stmts_fall cs) (stmts_break cs) inner.allowed.may_break flow v p.lasts c)
@@ -329,16 +336,19 @@ module _ (env : Env) (valid : ValidCore env.core) (none : env.outcome ≡ None) 
       → (next : ℕ → ℕ) (within : ℕ → ℕ → Type 0) → ((more i : ℕ) → within (suc more) i → within more (next i)) → ((more i : ℕ) → within more i → i < length) → (more i : ℕ) → within more i
       → (s : State) → Here at s → (n : ℕ) (w : World) → Safe (After at c s) (tick (counted more next i (turn number (exec_all env.core calls ensured cs))) n w s)
   counted_came at c number length cs no_name falls t h next within go_on small more i f s st n w =
-      let end : (u : State) → Lasts s u → Here at u → After at c s Falls u = λ u l stands. record {
-        reached = falls;
-        lasts = l;
-        stands = subst (λ xs. Stands env base (xs ++ at.scope) (at.next + locals_in c) entry u) (sym no_name) (stands_further env base entry at.scope at.next (at.next + locals_in c) u (omega arith) stands);
-      } in
+      let end : (u : State) → Lasts s u → Here at u → After at c s Falls u = λ u l stands. (
+        record {
+          reached = falls;
+          lasts = l;
+          stands = subst (λ xs. Stands env base (xs ++ at.scope) (at.next + locals_in c) entry u) (sym no_name) (stands_further env base entry at.scope at.next (at.next + locals_in c) u (omega arith) stands);
+        },
+        tt,
+      ) in
       keeps_tick HasMeaning (After at c s) (counted more next i (turn number (exec_all env.core calls ensured cs))) n w s
-      (λ m. keeps_counted HasMeaning (Turns at cs s) (After at c s) (λ u p. end u p.lasts p.stands) (λ u p. end u p.lasts p.stands) (λ v u p. p) next (turn number (exec_all env.core calls ensured cs)) within go_on
-      (λ more j g u p q z. keeps_weaker HasMeaning (Turns at cs u) (Turns at cs s) (turn number (exec_all env.core calls ensured cs) j q z u) (λ flow v x. turned_since env base entry s u at.scope at.next (stmts_break cs) flow v p.lasts x)
-      (turn_safe at number length j cs t (small more j g) u p.stands h q z))
-      more i f m w s (record { reached = refl; lasts = lasts_refl s; stands = st }))
+      (λ m. keeps_counted HasMeaning (Turns at cs s) (After at c s) (λ u p. end u p.0.lasts p.0.stands) (λ u p. end u p.0.lasts p.0.stands) (λ v u p. p) next (turn number (exec_all env.core calls ensured cs)) within go_on
+      (λ more j g u p q z. keeps_weaker HasMeaning (Turns at cs u) (Turns at cs s) (turn number (exec_all env.core calls ensured cs) j q z u) (λ flow v x. (turned_since env base entry s u at.scope at.next (stmts_break cs) flow v p.0.lasts x.0, x.1 ∙ p.1))
+      (turn_safe at number length j cs t (small more j g) u p.0.stands h q z))
+      more i f m w s (record { reached = refl; lasts = lasts_refl s; stands = st }, refl))
 
   -- up from 0, where so many turns follow
   up_came : (at : Point) (c : StmtCore) (number length : ℕ) (cs : StmtsCore) → named_by c ≡ [] → IsTrue (stmt_falls c) → LoopTyped env at number length → Runs (within_loop number at) cs → (more : ℕ) → 0 + more < length
@@ -362,13 +372,16 @@ module _ (env : Env) (valid : ValidCore env.core) (none : env.outcome ≡ None) 
   forever_came at cs h s st n w =
       let inner = looping at in
       keeps_forever HasMeaning (Turns at cs s) (After at (Forever cs) s)
-      (λ u p. record { reached = p.reached; lasts = p.lasts; stands = stands_further env base entry at.scope at.next (at.next + all_locals cs) u (omega arith) p.stands })
+      (λ u p. (record { reached = p.0.reached; lasts = p.0.lasts; stands = stands_further env base entry at.scope at.next (at.next + all_locals cs) u (omega arith) p.0.stands }, tt))
       (λ v u p. p) (block leave (exec_all env.core calls ensured cs))
       (λ u p m z. keeps_left HasMeaning (AfterAll inner cs u) (Turns at cs s) leave u (exec_all env.core calls ensured cs m z u)
-      (λ flow v c. turned_since env base entry s u at.scope at.next (stmts_break cs) flow (leave u v) p.lasts
-      (left_turned env base entry entered kept at.scope at.next at.next (omega arith) u p.stands (after_all cs inner).scope (after_all cs inner).next (stmts_fall cs) (stmts_break cs) inner.allowed.may_break flow v c))
-      (h u p.stands m z))
-      n w s (record { reached = refl; lasts = lasts_refl s; stands = st })
+      (λ flow v c. (
+        turned_since env base entry s u at.scope at.next (stmts_break cs) flow (leave u v) p.0.lasts
+            (left_turned env base entry entered kept at.scope at.next at.next (omega arith) u p.0.stands (after_all cs inner).scope (after_all cs inner).next (stmts_fall cs) (stmts_break cs) inner.allowed.may_break flow v c),
+        p.1,
+      ))
+      (h u p.0.stands m z))
+      n w s (record { reached = refl; lasts = lasts_refl s; stands = st }, refl)
 
   -- ---- returns
 
@@ -376,7 +389,7 @@ module _ (env : Env) (valid : ValidCore env.core) (none : env.outcome ≡ None) 
   returning_came at c s st result fits n w =
       keeps_tick HasMeaning (After at c s) (bind (ensured result) (λ t. give (Returned result))) n w s
       (λ m. keeps_after HasMeaning (Same s) (After at c s) (ensured result m w s) (λ t. give (Returned result)) (ensured_safe s result (knows_parameters env base entry at.scope at.next s st) fits m w)
-      (λ t u e j z. subst (λ v. Ended env base entry s result v) (sym e) (record { lasts = lasts_refl s; areas = st.knows.areas; fits = fits })))
+      (λ t u e j z. (subst (λ v. Ended env base entry s result v) (sym e) (record { lasts = lasts_refl s; areas = st.knows.areas; fits = fits }), ap (λ v. v.frames.own.names) e)))
 
   return_safe : (at : Point) (value : Option ExprCore) → ReturnTyped env at env.result value → (s : State) → Here at s → (n : ℕ) (w : World) → Safe (After at (Return value) s) (exec env.core calls ensured (Return value) n w s)
   return_safe at None t s st n w = returning_came at (Return None) s st None (none_fits env at env.core entry s.areas env.result t) n w
@@ -424,7 +437,7 @@ module _ (env : Env) (valid : ValidCore env.core) (none : env.outcome ≡ None) 
         bound_came at (After at (Downto number length e a) s) length e (λ first. tick (counted first pred first (turn number (exec_all env.core calls ensured a)))) s st t.1
         (λ first lt m z. down_came at (Downto number length e a) number length a refl refl t.0 (exec_all_safe a (within_loop number at) t.2) first lt s st m z) n w
     exec_safe (Forever a) at t s st n w = forever_came at a (exec_all_safe a (looping at) t) s st n w
-    exec_safe Break at t s st n w = keeps_tick HasMeaning (After at Break s) (give Broke) n w s (λ m. record { reached = refl; allowed = t; lasts = lasts_refl s; areas = st.knows.areas })
+    exec_safe Break at t s st n w = keeps_tick HasMeaning (After at Break s) (give Broke) n w s (λ m. (record { reached = refl; allowed = t; lasts = lasts_refl s; areas = st.knows.areas }, refl))
     exec_safe (Return value) at t s st n w = return_safe at value t.1 s st n w
     exec_safe (Assert e check) at t s st n w = assert_safe at e check t.0 s st n w
     exec_safe (NoAlloc a) at t s st n w = block_in at (NoAlloc a) (narrowing without.NoAlloc at) a s refl refl st (omega arith) (λ h. h) (λ h. h) (narrowed_break without.NoAlloc at.allowed) (exec_all_safe a (narrowing without.NoAlloc at) t) n w
@@ -437,9 +450,9 @@ module _ (env : Env) (valid : ValidCore env.core) (none : env.outcome ≡ None) 
         let later = point_after c at in
         keeps_also HasMeaning (After at c s) (AfterAll at (MoreStmts c cs) s) (exec env.core calls ensured c) (exec_all env.core calls ensured cs) n w s (exec_safe c at t.0 s st n w)
         (λ u p m z. keeps_weaker HasMeaning (AfterAll later cs u) (AfterAll at (MoreStmts c cs) s) (exec_all env.core calls ensured cs m z u)
-        (λ flow v x. came_since env base entry s u (after_all cs later).scope (after_all cs later).next (stmt_falls c && stmts_fall cs) (stmt_breaks c || stmts_break cs) at.allowed.may_break flow v p.lasts
+        (λ flow v x. came_since env base entry s u (after_all cs later).scope (after_all cs later).next (stmt_falls c && stmts_fall cs) (stmt_breaks c || stmts_break cs) at.allowed.may_break flow v p.0.lasts
         (came_weaker env base entry u (after_all cs later).scope (after_all cs later).next (stmts_fall cs) (stmts_break cs) at.allowed.may_break (stmt_falls c && stmts_fall cs) (stmt_breaks c || stmts_break cs) at.allowed.may_break flow v
-        (and_true (stmt_falls c) (stmts_fall cs) p.reached) (or_right_true (stmt_breaks c) (stmts_break cs)) (λ h. h) x))
-        (exec_all_safe cs later t.2 u p.stands m z))
-        (λ u p. record { reached = or_left_true (stmt_breaks c) (stmts_break cs) p.reached; allowed = p.allowed; lasts = p.lasts; areas = p.areas })
-        (λ v u p. p)
+        (and_true (stmt_falls c) (stmts_fall cs) p.0.reached) (or_right_true (stmt_breaks c) (stmts_break cs)) (λ h. h) x))
+        (exec_all_safe cs later t.2 u p.0.stands m z))
+        (λ u p. record { reached = or_left_true (stmt_breaks c) (stmts_break cs) p.0.reached; allowed = p.0.allowed; lasts = p.0.lasts; areas = p.0.areas })
+        (λ v u p. p.0)

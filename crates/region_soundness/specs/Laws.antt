@@ -47,11 +47,11 @@ pub record PlaceIn (p : ProcCore) (at : Point) : Type 0 where
 abbrev pub inside : ProcCore → (scope : List ℕ) → Entry → Activation
 inside p scope entry = record { locals = p.locals; scope = scope; entry = entry }
 
--- A statement that falls through leaves the names that it brings in scope. Of one that breaks off or returns no name is asked: its block ends.
+-- A statement that falls through leaves the names that it brings in scope; one that breaks off or returns leaves those that it found.
 abbrev pub KeepsScope : ModuleCore → ProcCore → Point → StmtCore → Entry → List Activation → Flow → State → Type 0
 KeepsScope core p at c entry waiting Falls u = Scoped core (inside p (after c at).scope entry) waiting u
-KeepsScope core p at c entry waiting Broke u = Scoped core (inside p [] entry) waiting u
-KeepsScope core p at c entry waiting (Returned result) u = Scoped core (inside p [] entry) waiting u
+KeepsScope core p at c entry waiting Broke u = Scoped core (inside p at.scope entry) waiting u
+KeepsScope core p at c entry waiting (Returned result) u = Scoped core (inside p at.scope entry) waiting u
 
 -- each statement of each procedure, wherever it stands well typed
 abbrev pub StatementsKeepScopes : Type 0

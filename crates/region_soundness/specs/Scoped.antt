@@ -54,9 +54,13 @@ pub record NameFits (core : ModuleCore) (entry : Entry) (areas : Areas) (names :
 abbrev pub NamesFit : ModuleCore → Areas → Activation → List (ℕ × Value) → Type 0
 NamesFit core areas a names = (number : ℕ) (ty : ValueType) → Contains a.scope number → slice_get a.locals number ≡ Some ty → NameFits core a.entry areas names number ty
 
--- the names have values that fit, and the areas of the module and those to which the arguments referred come before the call's own
+-- The names in scope, and no others, have values, which fit. The first locals are the parameters, which have the arguments at entry. The areas of
+-- the module and those to which the arguments referred come before the call's own.
 pub record FrameFits (core : ModuleCore) (areas : Areas) (a : Activation) (frame : Frame) : Type 0 where
   pub names : NamesFit core areas a frame.names
+  pub named : (number : ℕ) (v : Value) → name_in frame.names number ≡ Some v → Contains a.scope number
+  pub params : (k : ℕ) (t : ValueType) → slice_get a.entry.params k ≡ Some t → slice_get a.locals k ≡ Some t
+  pub args : (k : ℕ) (v : Value) → slice_get a.entry.args k ≡ Some v → name_in frame.names k ≡ Some v
   pub first : frame.first ≡ a.entry.first
   pub referred : (j k : ℕ) → Referred a.entry j k → k < a.entry.first
   pub globals : length core.areas ≤ a.entry.first

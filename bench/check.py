@@ -15,7 +15,9 @@ PROGRAM = os.path.join(TOP, "crates", "ivoryc", "out", "ivoryc")
 PAGE = os.path.join(TOP, "bench", "README.md")
 BEGIN, END = "<!-- made by check.py -->\n", "<!-- end of check.py -->\n"
 LIMIT = 262_144
-PROCEDURES, CALLS = 2_000, "2,000 procedures that each call the one before"
+CALLS, LETS = "2,000 procedures that each call the one before", "3,000 lets in one procedure"
+# How many pieces a text has at most, where its size is not what ends it.
+MOST = {CALLS: 2_000, LETS: 3_000}
 STRUCTS = """bitdata Ctrl : uint8_t { on : bool, mode : 3, level : 4 }
 struct Uart { head : ix(8); count : uint8_t; ctrl : Ctrl; buf : [8] uint8_t; }
 area uart : struct Uart;
@@ -50,7 +52,7 @@ FORMS = {
          "area a@ : struct S@;\nproc p@(u : ref r struct S@) { *u.ctrl = set(*a@.ctrl, mode, 5); *u.buf[*u.head] = 7; }\n", 38),
         ("", 0),
     ),
-    "one procedure of lets": (("proc p(x : uint32_t) { let a0 = x; ", 6), ("let a@ = a^ * 3 + x; ", 6), ("}", 0)),
+    LETS: (("proc p(x : uint32_t) { let a0 = x; ", 6), ("let a@ = a^ * 3 + x; ", 6), ("}", 0)),
     "chains of 1,000 links": (("proc p(x : uint32_t) { ", 4), ("let a@ = x" + " + x" * 1000 + "; ", 2002), ("}", 0)),
     CALLS: (
         ("area acc : uint32_t;\nproc p0(x : uint32_t) {}\n", 7),
@@ -103,7 +105,7 @@ def saved(name, content, folder):
 
 
 def row(name, form, folder):
-    most = PROCEDURES if name == CALLS else LIMIT
+    most = MOST.get(name, LIMIT)
     (whole, count), (tenth, fewer) = text(form, LIMIT, most), text(form, LIMIT // 10, most // 10)
     command = saved("whole.iv", whole, folder)
     figure = instructions(command, 0) / count

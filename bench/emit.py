@@ -35,7 +35,7 @@ def texts():
 
 
 def whole_language():
-    """Statements of many forms, which are read and then answered `not built yet`."""
+    """Statements of many forms, which are read and then refused by a rule."""
     piece = "if a < 5 { *p.x[a] = a + 1; } else { let b = g(a, 2); } map i : ix(8) { *q[i] = uint8_t(a % 7) *% 3; } assert(a != 0 && b == c); "
     head, tail = "module m; proc f(a : uint32_t) { ", "}"
     return head + piece * ((LIMIT - len(head) - len(tail)) // len(piece)) + tail

@@ -1,0 +1,4 @@
+pub mod Shapes
+pub mod Holds
+pub mod Both
+pub mod Laws

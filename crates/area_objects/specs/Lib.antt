@@ -2,3 +2,5 @@ pub mod Shapes
 pub mod Holds
 pub mod Both
 pub mod Laws
+pub mod Located
+pub mod PlaceLaws

@@ -1,6 +1,28 @@
 ghost use Rattle.area_objects.specs.Laws.{ObjectsHoldAreas};
+ghost use Rattle.area_objects.specs.PlaceLaws.{FieldsInOrder, FieldsLocated, ElementsLocated, PartsPointedTo, PlacesRead, PlacesAssigned, ObjectsInitialized, PointersShow, AreasSeen};
 
 /// What reads, stores, copies, replies, new areas and the ends of blocks and calls do on both sides.
 pub fn objects_hold_areas()
     ensures { ObjectsHoldAreas }
+{}
+
+/// What longer paths, addresses and pointers lead to, for any names of which no two fields of a struct have the same.
+pub fn places_lead_to_parts()
+    ensures order { FieldsInOrder }
+    ensures fields { FieldsLocated }
+    ensures elements { ElementsLocated }
+    ensures pointers { PartsPointedTo }
+{}
+
+/// What places read and are assigned, and what declarations make.
+pub fn places_hold_cells()
+    ensures read { PlacesRead }
+    ensures assigned { PlacesAssigned }
+    ensures initialized { ObjectsInitialized }
+{}
+
+/// What the outside sees.
+pub fn outside_sees_areas()
+    ensures pointers { PointersShow }
+    ensures areas { AreasSeen }
 {}

@@ -6,3 +6,6 @@ pub mod Readings
 pub mod Writes
 pub mod Lives
 pub mod Alike
+pub mod Located
+pub mod Outside
+pub mod Copies

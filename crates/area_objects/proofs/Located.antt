@@ -1,5 +1,5 @@
 -- Places of parts: the members of a struct stand where its fields do, and `&` and `*` of a part lead there and back.
-use Rattle.std.proofs.Common.{◌≡◌, ◌≢◌, ℕ, zero, suc, ◌+◌, ◌*◌, ◌<◌, ℤ, pos, int_le, int_lt, List, [], ◌∷◌, ◌++◌, length, slice_get, unwrap_or, Option, Some, None, Result, Ok, Err, Bool, true, false, ◌&&◌, if◌then◌else◌, refl, sym, ◌∙◌, ap, subst, arith, ⊎_elim}
+use Rattle.std.proofs.Common.{◌≡◌, ◌≢◌, ℕ, zero, suc, ◌+◌, ◌*◌, ◌<◌, ℤ, pos, int_le, int_lt, List, [], ◌∷◌, ◌++◌, length, map, slice_get, unwrap_or, Option, Some, None, Result, Ok, Err, Bool, true, false, ◌&&◌, if◌then◌else◌, refl, sym, ◌∙◌, ap, subst, arith, ⊎_elim}
 use Rattle.std.proofs.lemmas.Bool.{lt-ltb}
 use Rattle.std.proofs.lemmas.Int.{ints}
 use Rattle.iv_words.specs.Words.{same_word}
@@ -69,7 +69,7 @@ trees_numbered (s ∷ ss) trees h =
     (λ k a e. ⊎_elim (λ f. h k a f) (λ f. subst Numbered f.1 (fields_numbered trees s.fields 0 h)) (get_append_cases trees new a k e))
 
 pub fields_in_order : FieldsInOrder
-fields_in_order table area = tree_numbered (trees_of _) area (trees_numbered _ [] (λ k a e. absurd (cc)))
+fields_in_order table area = (let ss = map struct_of table.structs in tree_numbered (trees_of ss) area (trees_numbered ss [] (λ k a e. absurd (cc))))
 
 -- ---- a field
 

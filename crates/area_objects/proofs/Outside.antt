@@ -102,7 +102,7 @@ module _ (t : Target) (g : Naming) (table : Table) (structs : List CStruct) (s :
   all_seen [] [] areas i same h = refl
   all_seen [] (f ∷ fs) areas i same h = absurd same
   all_seen (x ∷ xs) [] areas i same h = absurd same
-  all_seen (x ∷ xs) (f ∷ fs) [] i same h = (let q = h 0 i x (omega arith) refl in let live : slice_get {A = AreaState} [] 0 ≡ Some (Live q.area) = q.live in absurd (cc))
+  all_seen (x ∷ xs) (f ∷ fs) [] i same h = (let q = h 0 i x (omega arith) refl in let none : Areas = [] in let live : slice_get none 0 ≡ Some (Live q.area) = q.live in absurd (cc))
   all_seen (x ∷ xs) (f ∷ fs) (y ∷ areas) i same h =
       let q = h 0 i x (omega arith) refl in
       let is : y ≡ Live q.area = (let e : Some y ≡ Some (Live q.area) = q.live in cc) in

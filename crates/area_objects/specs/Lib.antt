@@ -4,3 +4,4 @@ pub mod Both
 pub mod Laws
 pub mod Located
 pub mod PlaceLaws
+pub mod Copies

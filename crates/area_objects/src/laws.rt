@@ -1,4 +1,5 @@
 ghost use Rattle.area_objects.specs.Laws.{ObjectsHoldAreas};
+ghost use Rattle.area_objects.specs.Copies.{CopiesBegin, CopiesGoOn, CopiesEnd};
 ghost use Rattle.area_objects.specs.PlaceLaws.{FieldsInOrder, FieldsLocated, ElementsLocated, PartsPointedTo, PlacesRead, PlacesAssigned, ObjectsInitialized, PointersShow, AreasSeen};
 
 /// What reads, stores, copies, replies, new areas and the ends of blocks and calls do on both sides.
@@ -25,4 +26,11 @@ pub fn places_hold_cells()
 pub fn outside_sees_areas()
     ensures pointers { PointersShow }
     ensures areas { AreasSeen }
+{}
+
+/// A copy part by part puts at once what the other part held.
+pub fn copies_go_part_by_part()
+    ensures begin { CopiesBegin }
+    ensures on { CopiesGoOn }
+    ensures end { CopiesEnd }
 {}

@@ -2,6 +2,7 @@ pub mod Shapes
 pub mod Values
 pub mod Places
 pub mod Kept
+pub mod Scalars
 pub mod Readings
 pub mod Writes
 pub mod Lives

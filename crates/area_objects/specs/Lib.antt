@@ -5,3 +5,4 @@ pub mod Laws
 pub mod Located
 pub mod PlaceLaws
 pub mod Copies
+pub mod Scalars

@@ -1,4 +1,5 @@
 ghost use Rattle.area_objects.specs.Laws.{ObjectsHoldAreas};
+ghost use Rattle.area_objects.specs.Scalars.{NumbersCanBeHeld, ValuesCanBeHeld};
 ghost use Rattle.area_objects.specs.Copies.{CopiesBegin, CopiesGoOn, CopiesEnd};
 ghost use Rattle.area_objects.specs.PlaceLaws.{FieldsInOrder, FieldsLocated, ElementsLocated, PartsPointedTo, PlacesRead, PlacesAssigned, ObjectsInitialized, PointersShow, AreasSeen};
 
@@ -33,4 +34,10 @@ pub fn copies_go_part_by_part()
     ensures begin { CopiesBegin }
     ensures on { CopiesGoOn }
     ensures end { CopiesEnd }
+{}
+
+/// Each number of a stored type is one of its scalar's.
+pub fn scalars_hold_values()
+    ensures numbers { NumbersCanBeHeld }
+    ensures values { ValuesCanBeHeld }
 {}

@@ -10,3 +10,4 @@ pub mod Alike
 pub mod Located
 pub mod Outside
 pub mod Copies
+pub mod Passed

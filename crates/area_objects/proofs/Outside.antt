@@ -68,10 +68,10 @@ objects_initialized t g ty held c mem given numbers are gives =
 -- ---- the outside
 
 pub pointers_show : PointersShow
-pointers_show t g structs objects areas mem k o a c p b u typed both lives leads is =
+pointers_show t g structs objects areas mem k o a c d p b u typed both lives leads is =
     let m : Metric CScalar = metric_of t in
     let r = parts_seen m (CanHold (table_of t)) (memory_of t) (values_in (table_of t)) g objects areas mem k o a p b u both lives leads is in
-    ap (λ d. on_ok (answered (read_each (memory_of t).read mem o (lay m d (place m g a.ty p)))) (λ q. Ok (piece.Cells q))) typed
+    ap (λ e. on_ok (answered (read_each (memory_of t).read mem o (lay m e (place m g a.ty p)))) (λ q. Ok (piece.Cells q))) typed
     ∙ ap (λ z. on_ok (answered z) (λ q. Ok (piece.Cells q))) r
 
 -- ---- the objects of file scope

@@ -1,16 +1,35 @@
 -- The C type of an area has the area's parts, each at the C path, and as many scalars; and a path behind another leads on from there.
-use Rattle.std.proofs.Common.{◌≡◌, ℕ, zero, suc, ◌+◌, ◌*◌, ◌<◌, List, [], ◌∷◌, ◌++◌, Some, None, if◌then◌else◌, refl, ◌∙◌, ap, arith}
+use Rattle.std.proofs.Common.{◌≡◌, ℕ, zero, suc, ◌+◌, ◌*◌, ◌<◌, List, [], ◌∷◌, ◌++◌, map, Some, None, if◌then◌else◌, refl, sym, ◌∙◌, ap, arith, append-nil}
+use Rattle.std.proofs.lemmas.List.{map-append}
 use Rattle.std.proofs.lemmas.Bool.{lt-ltb}
-use Rattle.type_trees.specs.Trees.{Leaf, Many, Struct, End, Field, count, count_row, part, part_row}
+use Rattle.type_trees.specs.Trees.{Leaf, Many, Struct, End, Field, repeated, scalars, scalars_row, count, count_row, part, part_row}
 use Rattle.type_trees.specs.Layouts.{Metric, align, size, offset}
 use Rattle.type_trees.proofs.Multiples.{up_none}
 use Rattle.type_trees.proofs.Paths.{part_append, offset_append}
 use Rattle.type_trees.proofs.Windows.{within}
+use Rattle.area_types.specs.Syntax.{ValueType}
 use Rattle.area_types.specs.Trees.{Written, WrittenRow}
 use Rattle.c_ast.specs.declared.CScalar.{CScalar}
 use Rattle.area_objects.specs.Shapes.{Naming, shape, members, c_path, c_path_row, place}
 
+-- each of a row that is repeated
+map_repeated : (f : ValueType → CScalar) (n : ℕ) (xs : List ValueType) → map f (repeated n xs) ≡ repeated n (map f xs)
+map_repeated f zero xs = refl
+map_repeated f (suc n) xs = map-append f xs (repeated n xs) ∙ ap (λ l. map f xs ++ l) (map_repeated f n xs)
+
 module _ (g : Naming) where
+  mutual
+    -- the scalars in order are those of the cells
+    pub scalars_shape : (a : Written) → scalars (shape g a) ≡ map g.scalar (scalars a)
+    scalars_shape (Leaf s) = refl
+    scalars_shape (Many n a) = append-nil (repeated n (scalars (shape g a))) ∙ ap (repeated n) (scalars_shape a) ∙ sym (map_repeated g.scalar n (scalars a))
+    scalars_shape (Struct k r) = scalars_members r k
+
+    scalars_members : (r : WrittenRow) (k : ℕ) → scalars_row (members g r k) ≡ map g.scalar (scalars_row r)
+    scalars_members End k = refl
+    scalars_members (Field f a r) k =
+        ap (λ l. l ++ scalars_row (members g r k)) (scalars_shape a) ∙ ap (λ l. map g.scalar (scalars a) ++ l) (scalars_members r k) ∙ sym (map-append g.scalar (scalars a) (scalars_row r))
+
   mutual
     pub count_shape : (a : Written) → count (shape g a) ≡ count a
     count_shape (Leaf s) = refl

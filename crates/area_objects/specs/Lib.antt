@@ -5,4 +5,5 @@ pub mod Laws
 pub mod Located
 pub mod PlaceLaws
 pub mod Copies
+pub mod Passed
 pub mod Scalars

@@ -8,6 +8,7 @@ use Rattle.area_types.specs.Tables.{Table, written_out}
 use Rattle.area_types.specs.Trees.{Written, WrittenRow}
 use Rattle.core_tree.specs.Syntax.{ModuleCore, AreaCore}
 use Rattle.c_memory.specs.Initializers as values
+use Rattle.c_ast.specs.declared.CBase.{CBase}
 use Rattle.c_ast.specs.declared.CKind.{CKind}
 use Rattle.c_ast.specs.declared.CKind.TheVariants.{Scalar}
 use Rattle.c_ast.specs.declared.CStruct.{CStruct}
@@ -88,9 +89,9 @@ ObjectsInitialized =
 -- a pointer to a part shows the cells of the part
 abbrev pub PointersShow : Type 0
 PointersShow =
-    (t : Target) (g : Naming) (structs : List CStruct) (objects : Map) (areas : Areas) (mem : CObjects) (k o : ℕ) (a : Area) (c : Bool) (p : List ℕ) (b : Written) (u : Held)
-    → IsType g structs (base_of g b) b → BothIn t g objects areas mem → LiveIn objects areas k o a → part a.ty p ≡ Some b → at a.held p ≡ Some u
-    → calls.piece_of t structs mem (Ptr c (base_of g b) (begins t g o a.ty p)) ≡ Ok (piece.Cells (cells u))
+    (t : Target) (g : Naming) (structs : List CStruct) (objects : Map) (areas : Areas) (mem : CObjects) (k o : ℕ) (a : Area) (c : Bool) (d : CBase) (p : List ℕ) (b : Written) (u : Held)
+    → IsType g structs d b → BothIn t g objects areas mem → LiveIn objects areas k o a → part a.ty p ≡ Some b → at a.held p ≡ Some u
+    → calls.piece_of t structs mem (Ptr c d (begins t g o a.ty p)) ≡ Ok (piece.Cells (cells u))
 
 -- states that are alike show the same areas: each area of the module is live, of its type, and has the object of its own number
 abbrev pub AreasSeen : Type 0

@@ -1,4 +1,5 @@
 ghost use Rattle.area_objects.specs.Laws.{ObjectsHoldAreas};
+ghost use Rattle.area_objects.specs.Passed.{ArgumentsSeen, ArgumentsWritten};
 ghost use Rattle.area_objects.specs.Scalars.{NumbersCanBeHeld, ValuesCanBeHeld};
 ghost use Rattle.area_objects.specs.Copies.{CopiesBegin, CopiesGoOn, CopiesEnd};
 ghost use Rattle.area_objects.specs.PlaceLaws.{FieldsInOrder, FieldsLocated, ElementsLocated, PartsPointedTo, PlacesRead, PlacesAssigned, ObjectsInitialized, PointersShow, AreasSeen};
@@ -40,4 +41,10 @@ pub fn copies_go_part_by_part()
 pub fn scalars_hold_values()
     ensures numbers { NumbersCanBeHeld }
     ensures values { ValuesCanBeHeld }
+{}
+
+/// What the outside sees of the arguments of an import, and what its reply writes.
+pub fn arguments_pass_alike()
+    ensures seen { ArgumentsSeen }
+    ensures written { ArgumentsWritten }
 {}

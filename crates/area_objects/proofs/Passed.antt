@@ -189,7 +189,7 @@ module _ (t : Target) (g : Naming) (structs : List CStruct) (core : ModuleCore) 
   skipped o v params vs us reply areas mem e rest =
       let n = not_writable o v reply areas e in
       subst (λ l. Replied t g (write_replies t structs us reply mem) mem objects (all_written core params vs l (written o v reply areas))) (sym n.1)
-      (subst (λ as. Replied t g (write_replies t structs us reply mem) mem objects (all_written core params vs reply as)) (sym n.0) rest)
+      (subst (λ l. Replied t g (write_replies t structs us reply mem) mem objects (all_written core params vs reply l)) (sym n.0) rest)
 
   joined : (areas : Areas) (mem : CObjects) (o : Option Written) (k : ℕ) (path : List ℕ) (b : CBase) (to : Address) (params : List ValueType) (vs : List source.Value) (us : List CValue) (reply : List ℤ)
       → (one : OneWritten areas mem o (source.Ref k path) reply b to) → Rest params vs us (behind o reply) (written o (source.Ref k path) reply areas) one.new

@@ -7,3 +7,4 @@ pub mod PlaceLaws
 pub mod Copies
 pub mod Passed
 pub mod Scalars
+pub mod Examples

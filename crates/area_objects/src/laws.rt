@@ -1,4 +1,5 @@
 ghost use Rattle.area_objects.specs.Laws.{ObjectsHoldAreas};
+ghost use Rattle.area_objects.specs.Examples.{ShapeExamples, PlaceExamples, HeldExamples, PartlyCopied};
 ghost use Rattle.area_objects.specs.Passed.{ArgumentsSeen, ArgumentsWritten};
 ghost use Rattle.area_objects.specs.Scalars.{NumbersCanBeHeld, ValuesCanBeHeld};
 ghost use Rattle.area_objects.specs.Copies.{CopiesBegin, CopiesGoOn, CopiesEnd};
@@ -47,4 +48,13 @@ pub fn scalars_hold_values()
 pub fn arguments_pass_alike()
     ensures seen { ArgumentsSeen }
     ensures written { ArgumentsWritten }
+{}
+
+/// The C type of a small area, its places, an object with its cells, and a copy that is not done yet.
+#[tactic(auto, unfolding(c_memory::specs::Codecs::stored, c_memory::specs::Codecs::signed_value, type_trees::specs::Multiples::up))]
+pub fn small_area_examples()
+    ensures shapes { ShapeExamples }
+    ensures places { PlaceExamples }
+    ensures held { HeldExamples }
+    ensures copied { PartlyCopied }
 {}

@@ -11,3 +11,4 @@ pub mod Located
 pub mod Outside
 pub mod Copies
 pub mod Passed
+pub mod FirstStates

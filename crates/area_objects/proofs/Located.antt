@@ -1,5 +1,5 @@
 -- Places of parts: the members of a struct stand where its fields do, and `&` and `*` of a part lead there and back.
-use Rattle.std.proofs.Common.{◌≡◌, ◌≢◌, ℕ, zero, suc, ◌+◌, ◌*◌, ◌<◌, ℤ, pos, int_le, int_lt, List, [], ◌∷◌, ◌++◌, length, map, slice_get, unwrap_or, Option, Some, None, Result, Ok, Err, Bool, true, false, ◌&&◌, if◌then◌else◌, refl, sym, ◌∙◌, ap, subst, arith, ⊎_elim}
+use Rattle.std.proofs.Common.{◌≡◌, ◌≢◌, ℕ, zero, suc, ◌+◌, ◌*◌, ◌<◌, ◌≤◌, ℤ, pos, int_le, int_lt, List, [], ◌∷◌, ◌++◌, length, map, slice_get, unwrap_or, Option, Some, None, Result, Ok, Err, Bool, true, false, ◌&&◌, if◌then◌else◌, refl, sym, ◌∙◌, ap, subst, arith, ⊎_elim}
 use Rattle.std.proofs.lemmas.Bool.{lt-ltb}
 use Rattle.std.proofs.lemmas.Int.{ints}
 use Rattle.iv_words.specs.Words.{same_word}
@@ -23,7 +23,7 @@ use Rattle.c_ast.specs.Syntax.{Name}
 use Rattle.c_meaning.specs.Places.{Lvalue, Located, member_of, element_of, part_at, behind}
 use Rattle.c_meaning.specs.Values.{Trouble, Undefined, Address, Num, on_ok}
 use Rattle.area_objects.specs.Shapes.{Naming, shape, members, c_path_row, place}
-use Rattle.area_objects.specs.Located.{FieldsApart, Numbered, NumberedFrom, begins, located}
+use Rattle.area_objects.specs.Located.{many_fields, Numbered, NumberedFrom, begins, located}
 use Rattle.area_objects.specs.PlaceLaws.{FieldsInOrder, FieldsLocated, ElementsLocated, PartsPointedTo}
 use Rattle.area_objects.proofs.Places.{get_append_cases}
 use Rattle.area_objects.proofs.Shapes.{place_append, place_element}
@@ -83,29 +83,36 @@ pub record MemberAt (g : Naming) (r : WrittenRow) (k n f : ℕ) (b : Written) : 
   pub tree : member_tree (members g r k) (g.member k n) ≡ Some (shape g b)
   pub index : index_of (members g r k) (g.member k n) ≡ f
 
-module _ (g : Naming) (apart : FieldsApart g) where
-  member_here : (r : WrittenRow) (k n f : ℕ) (b : Written) → f ≡ n → MemberAt g (Field f b r) k n 0 b
-  member_here r k n f b e =
+field_below : (r : WrittenRow) (f : ℕ) (b : Written) → part_row r f [] ≡ Some b → f < many_fields r
+field_below End f b e = absurd (cc)
+field_below (Field j a r) zero b e = omega arith
+field_below (Field j a r) (suc f) b e = omega (arith, field_below r f b e)
+
+-- the first so many fields of the struct of number k have names of their own
+module _ (g : Naming) (k width : ℕ) (apart : (i j : ℕ) → i < width → j < width → g.member k i ≡ g.member k j → i ≡ j) where
+  member_here : (r : WrittenRow) (n f : ℕ) (b : Written) → f ≡ n → MemberAt g (Field f b r) k n 0 b
+  member_here r n f b e =
       let same : same_word (g.member k f) (g.member k n) ≡ true = ap (λ x. same_word (g.member k x) (g.member k n)) e ∙ same_self (g.member k n) in
       record {
         tree = ap (λ x. if x then Some (shape g b) else member_tree (members g r k) (g.member k n)) same;
         index = ap (λ x. if x then 0 else suc (index_of (members g r k) (g.member k n))) same;
       }
 
-  member_later : (r : WrittenRow) (a : Written) (k n j f : ℕ) (b : Written) → j ≢ n → MemberAt g r k n f b → MemberAt g (Field j a r) k n (suc f) b
-  member_later r a k n j f b ne m =
-      let other : same_word (g.member k j) (g.member k n) ≡ false = same_not (g.member k j) (g.member k n) (λ e. ne (apart k j n e)) in
+  member_later : (r : WrittenRow) (a : Written) (n j f : ℕ) (b : Written) → j < width → n < width → j ≢ n → MemberAt g r k n f b → MemberAt g (Field j a r) k n (suc f) b
+  member_later r a n j f b low lower ne m =
+      let other : same_word (g.member k j) (g.member k n) ≡ false = same_not (g.member k j) (g.member k n) (λ e. ne (apart j n low lower e)) in
       record {
         tree = ap (λ x. if x then Some (shape g a) else member_tree (members g r k) (g.member k n)) other ∙ m.tree;
         index = ap (λ x. if x then 0 else suc (index_of (members g r k) (g.member k n))) other ∙ ap suc m.index;
       }
 
-  member_at : (r : WrittenRow) (k i n f : ℕ) (b : Written) → NumberedFrom r i → n ≡ i + f → part_row r f [] ≡ Some b → MemberAt g r k n f b
-  member_at End k i n f b h e is = absurd (cc)
-  member_at (Field j a r) k i n zero b h e is =
+  member_at : (r : WrittenRow) (i n f : ℕ) (b : Written) → NumberedFrom r i → i + many_fields r ≤ width → n ≡ i + f → part_row r f [] ≡ Some b → MemberAt g r k n f b
+  member_at End i n f b h le e is = absurd (cc)
+  member_at (Field j a r) i n zero b h le e is =
       let same : a ≡ b = cc in
-      subst (λ x. MemberAt g (Field j a r) k n 0 x) same (member_here r k n j a (omega (arith, h.0, e)))
-  member_at (Field j a r) k i n (suc f) b h e is = member_later r a k n j f b (λ q. omega (arith, q, h.0, e)) (member_at r k (suc i) n f b h.2 (omega (arith, e)) is)
+      subst (λ x. MemberAt g (Field j a r) k n 0 x) same (member_here r n j a (omega (arith, h.0, e)))
+  member_at (Field j a r) i n (suc f) b h le e is =
+      member_later r a n j f b (omega (arith, h.0, le)) (omega (arith, e, le, field_below r f b is)) (λ q. omega (arith, q, h.0, e)) (member_at r (suc i) n f b h.2 (omega (arith, le)) (omega (arith, e)) is)
 
 -- a part of an object, by the equation of its offset
 at_offset : (c : Bool) (o x y : ℕ) (a : CTree) → x ≡ y → Located c (record { object = o; offset = x }) a ≡ Located c (record { object = o; offset = y }) a
@@ -116,7 +123,7 @@ fields_located t g c o ty p k r f b apart numbered leads is =
     let m : Metric CScalar = metric_of t in
     let to : Address = begins t g o ty p in
     let row : CRow = members g r k in
-    let found = member_at g apart r k 0 f f b (part_numbered ty p (Struct k r) numbered leads) (omega arith) is in
+    let found = member_at g k (many_fields r) apart r 0 f f b (part_numbered ty p (Struct k r) numbered leads) (omega arith) (omega arith) is in
     let offset_is : offset_row m row (index_of row (g.member k f)) [] 0 ≡ place m g (Struct k r) (f ∷ []) =
     ap (λ j. offset_row m row j [] 0) found.index ∙ ap (λ q. offset_row m row f q 0) (sym (no_rest r f)) in
     (part_append ty p (f ∷ []) (Struct k r) leads ∙ is,

@@ -160,8 +160,8 @@ module _ (t : Target) (g : Naming) (structs : List CStruct) (core : ModuleCore) 
     pub is : answered (write_each (memory_of t).write mem to.object (pointed t structs b to) reply) ≡ Ok new
     pub both : BothIn t g objects (written o v reply areas) new
     pub others : (q : ℕ) → ((k : ℕ) → slice_get objects k ≢ Some q) → Same (metric_of t) (memory_of t) mem new q
-    pub count : length new ≡ length mem
     pub left : drop (count (tree structs b)) reply ≡ behind o reply
+    pub count : length new ≡ length mem
 
   one_written : (areas : Areas) (mem : CObjects) (k : ℕ) (path : List ℕ) (b : CBase) (to : Address) (reply : List ℤ) → BothIn t g objects areas mem → (p : Points t g structs objects areas k path b to)
       → p.area.constant ≡ false → Gets t g (Some p.content) reply → OneWritten areas mem (Some p.content) (source.Ref k path) reply b to

@@ -1,6 +1,7 @@
 -- Lists by place, and what the places of the map of areas hold after a change of it.
 use Rattle.std.proofs.Common.{◌≡◌, ◌≢◌, ℕ, zero, suc, ◌<◌, ◌≤◌, List, [], ◌∷◌, ◌++◌, length, slice_get, Option, Some, None, refl, ap, arith, ◌⊎◌, ⊎_elim, inl, inr}
 use Rattle.core_meaning.specs.Areas.{Held, Area, AreaState, Live, Marked, Gone, Areas, at_place, from_place, with_part, put_part, put_at, marked, mark_from, take_from}
+use Rattle.area_objects.specs.Both.{Map, Extends}
 
 -- ---- lists
 
@@ -28,6 +29,14 @@ pub get_there : {A : Type 0} (xs : List A) (i : ℕ) → i < length xs → (a : 
 get_there [] i h = absurd (omega (arith, h))
 get_there (x ∷ xs) zero h = (x, refl)
 get_there (x ∷ xs) (suc i) h = get_there xs i (omega (arith, h))
+
+-- ---- from areas to objects
+
+pub extends_more : (objects more : Map) → Extends objects (objects ++ more)
+extends_more objects more k o e = get_append objects more k o e
+
+pub extends_twice : (first second third : Map) → Extends first second → Extends second third → Extends first third
+extends_twice first second third h g k o e = g k o (h k o e)
 
 -- ---- the map of areas
 

@@ -7,4 +7,5 @@ pub mod PlaceLaws
 pub mod Copies
 pub mod Passed
 pub mod Scalars
+pub mod FirstStates
 pub mod Examples

@@ -1,5 +1,5 @@
 -- Places of C that lead to parts of areas, and what is asked of names so that they do.
-use Rattle.std.specs.Prelude.{◌≡◌, ℕ, suc, List, [], ◌∷◌, Bool}
+use Rattle.std.specs.Prelude.{◌≡◌, ℕ, suc, ◌<◌, List, [], ◌∷◌, Bool}
 use Rattle.type_trees.specs.Trees.{Leaf, Many, Struct, End, Field}
 use Rattle.area_types.specs.Tables.{Table, written_out}
 use Rattle.area_types.specs.Trees.{Written, WrittenRow}
@@ -15,9 +15,13 @@ use Rattle.c_meaning.specs.Places.{Lvalue, Located}
 use Rattle.c_meaning.specs.Values.{Address}
 use Rattle.area_objects.specs.Shapes.{Naming, shape, place}
 
--- no two fields of a struct have one name
-abbrev pub FieldsApart : Naming → Type 0
-FieldsApart g = (k i j : ℕ) → g.member k i ≡ g.member k j → i ≡ j
+abbrev pub many_fields : WrittenRow → ℕ
+many_fields End = 0
+many_fields (Field f a r) = suc (many_fields r)
+
+-- no two fields of the struct of number k have one name
+abbrev pub FieldsApart : Naming → (k : ℕ) → WrittenRow → Type 0
+FieldsApart g k r = (i j : ℕ) → i < many_fields r → j < many_fields r → g.member k i ≡ g.member k j → i ≡ j
 
 -- the fields of each struct are numbered in order, as they are in all areas of a module
 abbrev mutual

@@ -1,16 +1,17 @@
-ghost use Rattle.area_objects.specs.Laws.{ObjectsHoldAreas};
-ghost use Rattle.area_objects.specs.Examples.{ShapeExamples, PlaceExamples, HeldExamples, PartlyCopied};
-ghost use Rattle.area_objects.specs.Passed.{ArgumentsSeen, ArgumentsWritten};
-ghost use Rattle.area_objects.specs.Scalars.{NumbersCanBeHeld, ValuesCanBeHeld};
 ghost use Rattle.area_objects.specs.Copies.{CopiesBegin, CopiesGoOn, CopiesEnd};
+ghost use Rattle.area_objects.specs.Examples.{ShapeExamples, PlaceExamples, HeldExamples, PartlyCopied};
+ghost use Rattle.area_objects.specs.FirstStates.{FirstStatesAlike, NumbersStandThere};
+ghost use Rattle.area_objects.specs.Laws.{ObjectsHoldAreas};
+ghost use Rattle.area_objects.specs.Passed.{ArgumentsSeen, ArgumentsWritten};
 ghost use Rattle.area_objects.specs.PlaceLaws.{FieldsInOrder, FieldsLocated, ElementsLocated, PartsPointedTo, PlacesRead, PlacesAssigned, ObjectsInitialized, PointersShow, AreasSeen};
+ghost use Rattle.area_objects.specs.Scalars.{NumbersCanBeHeld, ValuesCanBeHeld};
 
 /// What reads, stores, copies, replies, new areas and the ends of blocks and calls do on both sides.
 pub fn objects_hold_areas()
     ensures { ObjectsHoldAreas }
 {}
 
-/// What longer paths, addresses and pointers lead to, for any names of which no two fields of a struct have the same.
+/// What longer paths, addresses and pointers lead to, where no two fields of a struct have one name.
 pub fn places_lead_to_parts()
     ensures order { FieldsInOrder }
     ensures fields { FieldsLocated }
@@ -48,6 +49,12 @@ pub fn scalars_hold_values()
 pub fn arguments_pass_alike()
     ensures seen { ArgumentsSeen }
     ensures written { ArgumentsWritten }
+{}
+
+/// The first states of both sides are alike, where each object of file scope is declared as an area and initialized with its first cells.
+pub fn first_states_are_alike()
+    ensures states { FirstStatesAlike }
+    ensures numbers { NumbersStandThere }
 {}
 
 /// The C type of a small area, its places, an object with its cells, and a copy that is not done yet.

@@ -19,11 +19,12 @@ use Rattle.area_objects.specs.Holds.{memory_in, CanHold}
 use Rattle.area_objects.specs.Laws.{Alike, ObjectsHoldAreas}
 use Rattle.area_objects.proofs.Readings.{cells_read, parts_seen}
 use Rattle.area_objects.proofs.Writes.{cells_stored, parts_put, replies_written, parts_copied}
-use Rattle.area_objects.proofs.Lives.{areas_made, blocks_ended, calls_ended, others_made, others_written}
+use Rattle.area_objects.proofs.Lives.{objects_live, areas_made, blocks_ended, calls_ended, others_made, others_written}
 
 -- the laws of the memory are all that is asked
 pub alike : (m : Metric CScalar) (Can : CScalar → ℤ → Type 0) (M : Operations CScalar Name ℤ) → Lawful m Can M → LawfulValues m Can (λ (n : ℤ). n) M → (g : Naming) → Alike m Can M g
 alike m Can M law values g = record {
+  live = objects_live m Can M law g;
   read = cells_read m Can M values g;
   stored = cells_stored m Can M law values g;
   seen = parts_seen m Can M values g;

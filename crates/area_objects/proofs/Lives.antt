@@ -11,12 +11,15 @@ use Rattle.core_meaning.specs.Areas.{Area, AreaState, Areas, Live, mark_from, ta
 use Rattle.area_objects.specs.Shapes.{Naming, shape}
 use Rattle.area_objects.specs.Holds.{CellsFit, HoldsArea}
 use Rattle.area_objects.specs.Both.{Map, LiveIn, Both}
-use Rattle.area_objects.specs.Laws.{AreasMade, BlocksEnded, CallsEnded, OthersMade, OthersWritten}
+use Rattle.area_objects.specs.Laws.{ObjectsLive, AreasMade, BlocksEnded, CallsEnded, OthersMade, OthersWritten}
 use Rattle.area_objects.proofs.Values.{c_value, cells_c, fits_c}
 use Rattle.area_objects.proofs.Kept.{map_same, stays, itself, both_kept}
 use Rattle.area_objects.proofs.Places.{get_append_cases, get_below, length_mark, length_take, live_unmarked, live_untaken}
 
 module _ (m : Metric CScalar) (Can : CScalar → ℤ → Type 0) (M : Operations CScalar Name ℤ) (law : Lawful m Can M) (g : Naming) where
+  pub objects_live : ObjectsLive m Can M g
+  objects_live objects areas mem k o a both lives = law.lives mem o a.constant (shape g a.ty) (map (λ n. Some n) (cells a.held)) (both.holds k o a lives).shows
+
   -- ---- a further area
 
   module _ (objects : Map) (areas : Areas) (mem : M.Memory) (a : Area) (both : Both Can M g objects areas mem) (fits : CellsFit Can g a.ty a.held) where

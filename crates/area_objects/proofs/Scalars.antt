@@ -1,5 +1,5 @@
 -- Each number of a stored type is one of its scalar's.
-use Rattle.std.proofs.Common.{◌≡◌, ◌≤◌, ℕ, zero, suc, nat_le, ℤ, pos, List, slice_get, unwrap_or, Option, Some, None, false, IsTrue, refl, sym, subst, arith}
+use Rattle.std.proofs.Common.{◌≤◌, ℕ, zero, suc, nat_le, ℤ, pos, List, slice_get, unwrap_or, Option, Some, None, false, IsTrue, refl, sym, subst, arith}
 use Rattle.std.proofs.lemmas.Int.{ints}
 use Rattle.iv_words.specs.declared.IntKind.{IntKind}
 use Rattle.iv_words.specs.declared.IntKind.TheVariants.{U8, U16}
@@ -17,7 +17,7 @@ use Rattle.c_ast.specs.Targets.{TargetTable}
 use Rattle.core_meaning.specs.Areas.{Held}
 use Rattle.area_objects.specs.Shapes.{Naming}
 use Rattle.area_objects.specs.Holds.{CanHold, CellsFit}
-use Rattle.area_objects.specs.Scalars.{scalar_of, NumbersCanBeHeld, IndicesSmall, IndicesSmallIn, ValuesCanBeHeld}
+use Rattle.area_objects.specs.Scalars.{NumbersCanBeHeld, IndicesSmall, IndicesSmallIn, NamesScalars, ValuesCanBeHeld}
 
 truth_in_range : (n : ℤ) → IsTrue (is_index 2 n) → IsTrue (in_range_of 1 false n)
 truth_in_range n h = grind (arith, ints, h)
@@ -42,7 +42,7 @@ each_held P Q zero (Cons v vs) h e = absurd e
 each_held P Q (suc n) Nil h e = absurd e
 each_held P Q (suc n) (Cons v vs) h e = (h v e.0, each_held P Q n vs h e.1)
 
-module _ (t : TargetTable) (table : Table) (g : Naming) (scalars : (s : ValueType) → g.scalar s ≡ scalar_of table.words s) where
+module _ (t : TargetTable) (table : Table) (g : Naming) (scalars : NamesScalars table g) where
   abbrev Source : ValueType → ℤ → Type 0
   Source s n = IsTrue (is_value table s n)
 
@@ -51,7 +51,7 @@ module _ (t : TargetTable) (table : Table) (g : Naming) (scalars : (s : ValueTyp
 
   mutual
     value_held : (ty : Written) (held : Held) → IndicesSmall ty → Fits Source ty held → Fits Target ty held
-    value_held (Leaf s) (Cell n) small h = subst (λ k. CanHold t k n) (sym (scalars s)) (numbers_can_be_held t table s n small h)
+    value_held (Leaf s) (Cell n) small h = subst (λ k. CanHold t k n) (sym (scalars s n h)) (numbers_can_be_held t table s n small h)
     value_held (Leaf s) (Parts vs) small h = absurd h
     value_held (Many n a) (Cell x) small h = absurd h
     value_held (Many n a) (Parts vs) small h = each_held (Fits Source a) (Fits Target a) n vs (λ v e. value_held a v small e) h

@@ -1,5 +1,5 @@
 -- What each act on both sides keeps of a memory that is alike to the areas. All is said over any memory that keeps the laws of memory.
-use Rattle.std.specs.Prelude.{◌≡◌, ◌≢◌, ℕ, suc, ◌<◌, ◌≤◌, ℤ, List, [], ◌∷◌, ◌++◌, length, Bool, false, slice_get, Option, Some, None, Result, Ok}
+use Rattle.std.specs.Prelude.{◌≡◌, ◌≢◌, ℕ, suc, ◌<◌, ◌≤◌, ℤ, List, [], ◌∷◌, ◌++◌, length, Bool, true, false, slice_get, Option, Some, None, Result, Ok}
 use Rattle.type_trees.specs.Trees.{Leaf, count, part}
 use Rattle.type_trees.specs.Layouts.{Metric}
 use Rattle.type_trees.specs.Values.{Cell, cells, at}
@@ -19,6 +19,10 @@ use Rattle.area_objects.specs.Both.{Map, LiveIn, Both, Done}
 
 module _ (m : Metric CScalar) (Can : CScalar → ℤ → Type 0) (M : Operations CScalar Name ℤ) (g : Naming) where
   -- ---- reads and writes
+
+  -- the object of a live area lives
+  abbrev pub ObjectsLive : Type 0
+  ObjectsLive = (objects : Map) (areas : Areas) (mem : M.Memory) (k o : ℕ) (a : Area) → Both Can M g objects areas mem → LiveIn objects areas k o a → M.live mem o ≡ true
 
   -- a part that is a leaf reads as its number, which its scalar can hold
   abbrev pub CellsRead : Type 0
@@ -97,6 +101,7 @@ module _ (m : Metric CScalar) (Can : CScalar → ℤ → Type 0) (M : Operations
       → M.write mem o x n ≡ Ok new → Both Can M g objects areas new
 
   pub record Alike : Type 0 where
+    pub live : ObjectsLive
     pub read : CellsRead
     pub stored : CellsStored
     pub seen : PartsSeen

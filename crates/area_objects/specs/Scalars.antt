@@ -38,8 +38,12 @@ abbrev mutual
   IndicesSmallIn End = Unit {0}
   IndicesSmallIn (Field f a r) = IndicesSmall a × IndicesSmallIn r
 
+-- the scalar of each type that has values is that one
+abbrev pub NamesScalars : Table → Naming → Type 0
+NamesScalars table g = (s : ValueType) (n : ℤ) → IsTrue (is_value table s n) → g.scalar s ≡ scalar_of table.words s
+
 -- so a value of a type is one that the scalars of the type can hold
 abbrev pub ValuesCanBeHeld : Type 0
 ValuesCanBeHeld =
-    (t : TargetTable) (table : Table) (g : Naming) (ty : Written) (held : Held) → ((s : ValueType) → g.scalar s ≡ scalar_of table.words s) → IndicesSmall ty
+    (t : TargetTable) (table : Table) (g : Naming) (ty : Written) (held : Held) → NamesScalars table g → IndicesSmall ty
     → Fits (λ s n. IsTrue (is_value table s n)) ty held → CellsFit (CanHold t) g ty held

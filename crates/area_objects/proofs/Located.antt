@@ -9,7 +9,6 @@ use Rattle.type_trees.specs.Trees.{Leaf, Many, Struct, End, Field, part, part_ro
 use Rattle.type_trees.specs.Layouts.{Metric, align, size, offset, offset_row}
 use Rattle.type_trees.proofs.Multiples.{up_none}
 use Rattle.type_trees.proofs.Paths.{part_append}
-use Rattle.type_trees.proofs.Windows.{within}
 use Rattle.area_types.specs.Syntax as types
 use Rattle.area_types.specs.View.{struct_of}
 use Rattle.area_types.specs.Trees.{Written, WrittenRow, tree_of, fields_from, fields_of, trees_from, trees_of}
@@ -29,18 +28,6 @@ use Rattle.area_objects.proofs.Places.{get_append_cases}
 use Rattle.area_objects.proofs.Shapes.{place_append, place_element}
 
 -- ---- fields in order
-
-mutual
-  pub part_numbered : (a : Written) (p : List ℕ) (b : Written) → Numbered a → part a p ≡ Some b → Numbered b
-  part_numbered a [] b h e = (let same : a ≡ b = cc in subst Numbered same h)
-  part_numbered (Leaf s) (i ∷ p) b h e = absurd (cc)
-  part_numbered (Many n a) (i ∷ p) b h e = part_numbered a p b h (within n i a p b e).rest
-  part_numbered (Struct k r) (i ∷ p) b h e = row_numbered r 0 i p b h e
-
-  row_numbered : (r : WrittenRow) (j i : ℕ) (p : List ℕ) (b : Written) → NumberedFrom r j → part_row r i p ≡ Some b → Numbered b
-  row_numbered End j i p b h e = absurd (cc)
-  row_numbered (Field f a r) j zero p b h e = part_numbered a p b h.1 e
-  row_numbered (Field f a r) j (suc i) p b h e = row_numbered r (suc j) i p b h.2 e
 
 abbrev AllNumbered : List Written → Type 0
 AllNumbered trees = (k : ℕ) (a : Written) → slice_get trees k ≡ Some a → Numbered a
@@ -123,7 +110,7 @@ fields_located t g c o ty p k r f b apart numbered leads is =
     let m : Metric CScalar = metric_of t in
     let to : Address = begins t g o ty p in
     let row : CRow = members g r k in
-    let found = member_at g k (many_fields r) apart r 0 f f b (part_numbered ty p (Struct k r) numbered leads) (omega arith) (omega arith) is in
+    let found = member_at g k (many_fields r) apart r 0 f f b numbered (omega arith) (omega arith) is in
     let offset_is : offset_row m row (index_of row (g.member k f)) [] 0 ≡ place m g (Struct k r) (f ∷ []) =
     ap (λ j. offset_row m row j [] 0) found.index ∙ ap (λ q. offset_row m row f q 0) (sym (no_rest r f)) in
     (part_append ty p (f ∷ []) (Struct k r) leads ∙ is,

@@ -45,7 +45,7 @@ FieldsInOrder = (table : Table) (area : AreaType) → Numbered (written_out tabl
 abbrev pub FieldsLocated : Type 0
 FieldsLocated =
     (t : Target) (g : Naming) (c : Bool) (o : ℕ) (ty : Written) (p : List ℕ) (k : ℕ) (r : WrittenRow) (f : ℕ) (b : Written)
-    → FieldsApart g k r → Numbered ty → part ty p ≡ Some (Struct k r) → part (Struct k r) (f ∷ []) ≡ Some b
+    → FieldsApart g k r → Numbered (Struct k r) → part ty p ≡ Some (Struct k r) → part (Struct k r) (f ∷ []) ≡ Some b
     → (part ty (p ++ f ∷ []) ≡ Some b) × (member_of t (g.member k f) (located t g c o ty p (Struct k r)) ≡ Ok (located t g c o ty (p ++ f ∷ []) b))
 
 -- the array's member and `[i]` of it are the place of the element, which is in bounds

@@ -1,15 +1,15 @@
 -- A copy part by part. Two parts of one type are the same or their paths part; what is put at one is then not seen at the other.
-use Rattle.std.proofs.Common.{◌≡◌, ◌≢◌, ℕ, zero, suc, ◌+◌, ◌==◌, ℤ, List, [], ◌∷◌, ◌++◌, length, slice_get, Option, Some, None, Bool, true, false, if◌then◌else◌, refl, sym, ◌∙◌, ap, subst, arith, ◌⊎◌, ⊎_elim, inl, inr}
+use Rattle.std.proofs.Common.{◌≡◌, ◌≢◌, ℕ, zero, suc, ◌==◌, ℤ, List, [], ◌∷◌, ◌++◌, slice_get, Some, Bool, true, false, refl, sym, ◌∙◌, ap, subst, arith, ◌⊎◌, ⊎_elim, inl, inr}
 use Rattle.std.proofs.lemmas.Bool.{eqb-true, eqb-false}
-use Rattle.type_trees.specs.Trees.{Leaf, Many, Struct, Row, End, Field, levels, part, part_row}
+use Rattle.type_trees.specs.Trees.{Leaf, Many, Struct, End, Field, part, part_row}
 use Rattle.type_trees.specs.Values.{Cell, Parts, Values, Nil, Cons, at, at_row, put, put_row}
 use Rattle.type_trees.proofs.Parts.{levels_within}
 use Rattle.type_trees.proofs.Paths.{part_append}
 use Rattle.type_trees.proofs.Windows.{within}
 use Rattle.area_types.specs.Trees.{Written, WrittenRow}
-use Rattle.core_meaning.specs.Areas.{Held, Area, AreaState, Areas, Live, with_part, put_part, put_at, at_place}
+use Rattle.core_meaning.specs.Areas.{Held, Area, Areas, Live, with_part, put_part, put_at}
 use Rattle.core_meaning.proofs.Areas.{others_stay}
-use Rattle.area_objects.specs.Copies.{mixed, PartIs, filled_to, CopiesBegin, NextCopied, CopiesGoOn, many, CopiesEnd}
+use Rattle.area_objects.specs.Copies.{mixed, PartIs, filled_to, CopiesBegin, NextCopied, CopiesGoOn, CopiesEnd}
 use Rattle.area_objects.proofs.Places.{put_here}
 
 -- ---- paths that part

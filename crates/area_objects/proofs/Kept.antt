@@ -1,9 +1,9 @@
 -- An object that holds an area holds its value in the form of its C type; and what does not touch the objects of live areas keeps a memory alike
 -- to them.
-use Rattle.std.proofs.Common.{◌≡◌, ℕ, ◌<◌, ◌≤◌, ℤ, List, [], ◌∷◌, length, map, Some, Bool, false, refl, sym, ◌∙◌, ap, subst, arith}
+use Rattle.std.proofs.Common.{◌≡◌, ℕ, ◌≤◌, ℤ, List, [], ◌∷◌, length, map, Some, false, refl, sym, ◌∙◌, ap, subst, arith}
 use Rattle.type_trees.specs.Trees.{Leaf, part}
 use Rattle.type_trees.specs.Layouts.{Metric}
-use Rattle.type_trees.specs.Values.{Cell, Fits, cells, at}
+use Rattle.type_trees.specs.Values.{Cell, cells, at}
 use Rattle.type_trees.proofs.Values.{lens}
 use Rattle.area_types.specs.Syntax.{ValueType}
 use Rattle.area_types.specs.Trees.{Written}

@@ -1,5 +1,5 @@
 -- Areas and objects that are made, and those that end.
-use Rattle.std.proofs.Common.{◌≡◌, ◌≢◌, ℕ, suc, ◌<◌, ℤ, List, [], ◌∷◌, ◌++◌, length, map, slice_get, Some, refl, sym, ◌∙◌, ap, subst, arith, ⊎_elim, inl, inr, length-append}
+use Rattle.std.proofs.Common.{◌≡◌, ℕ, suc, ◌<◌, ℤ, [], ◌∷◌, ◌++◌, length, map, slice_get, Some, refl, sym, ◌∙◌, ap, subst, arith, ⊎_elim, length-append}
 use Rattle.type_trees.specs.Layouts.{Metric, lay}
 use Rattle.type_trees.specs.Values.{cells}
 use Rattle.c_memory.specs.Abstract.{Operations, Same, Made, Lawful}
@@ -7,7 +7,7 @@ use Rattle.c_memory.specs.Seen.{EachFits}
 use Rattle.c_memory.proofs.Cells.{fits_each}
 use Rattle.c_ast.specs.declared.CScalar.{CScalar}
 use Rattle.c_ast.specs.Syntax.{Name}
-use Rattle.core_meaning.specs.Areas.{Area, AreaState, Areas, Live, mark_from, take_from}
+use Rattle.core_meaning.specs.Areas.{Area, Areas, Live, mark_from, take_from}
 use Rattle.area_objects.specs.Shapes.{Naming, shape}
 use Rattle.area_objects.specs.Holds.{CellsFit, HoldsArea}
 use Rattle.area_objects.specs.Both.{Map, LiveIn, Both}

@@ -1,26 +1,23 @@
 -- Places of parts: the members of a struct stand where its fields do, and `&` and `*` of a part lead there and back.
-use Rattle.std.proofs.Common.{◌≡◌, ◌≢◌, ℕ, zero, suc, ◌+◌, ◌*◌, ◌<◌, ◌≤◌, ℤ, pos, int_le, int_lt, List, [], ◌∷◌, ◌++◌, length, map, slice_get, unwrap_or, Option, Some, None, Result, Ok, Err, Bool, true, false, ◌&&◌, if◌then◌else◌, refl, sym, ◌∙◌, ap, subst, arith, ⊎_elim}
+use Rattle.std.proofs.Common.{◌≡◌, ◌≢◌, ℕ, zero, suc, ◌+◌, ◌*◌, ◌<◌, ◌≤◌, pos, int_le, int_lt, List, [], ◌∷◌, ◌++◌, length, map, slice_get, unwrap_or, Option, Some, None, Ok, Err, Bool, true, false, ◌&&◌, if◌then◌else◌, refl, sym, ◌∙◌, ap, subst, arith, ⊎_elim}
 use Rattle.std.proofs.lemmas.Bool.{lt-ltb}
 use Rattle.std.proofs.lemmas.Int.{ints}
 use Rattle.iv_words.specs.Words.{same_word}
 use Rattle.iv_words.proofs.Equality.{same_self, same_not}
 use Rattle.run_records.specs.declared.Reason.TheVariants.{Bounds}
 use Rattle.type_trees.specs.Trees.{Leaf, Many, Struct, End, Field, part, part_row}
-use Rattle.type_trees.specs.Layouts.{Metric, align, size, offset, offset_row}
+use Rattle.type_trees.specs.Layouts.{Metric, align, size, offset_row}
 use Rattle.type_trees.proofs.Multiples.{up_none}
 use Rattle.type_trees.proofs.Paths.{part_append}
 use Rattle.area_types.specs.Syntax as types
 use Rattle.area_types.specs.View.{struct_of}
 use Rattle.area_types.specs.Trees.{Written, WrittenRow, tree_of, fields_from, fields_of, trees_from, trees_of}
 use Rattle.c_ast.specs.declared.CScalar.{CScalar}
-use Rattle.c_ast.specs.declared.CKind.{CKind}
-use Rattle.c_ast.specs.declared.Target.{Target}
 use Rattle.c_ast.specs.Scalars.{metric_of}
 use Rattle.c_ast.specs.StaticTypes.{member_tree}
-use Rattle.c_ast.specs.Structs.{CTree, CRow, index_of, offset_named}
-use Rattle.c_ast.specs.Syntax.{Name}
-use Rattle.c_meaning.specs.Places.{Lvalue, Located, member_of, element_of, part_at, behind}
-use Rattle.c_meaning.specs.Values.{Trouble, Undefined, Address, Num, on_ok}
+use Rattle.c_ast.specs.Structs.{CTree, CRow, index_of}
+use Rattle.c_meaning.specs.Places.{Located, member_of, element_of, part_at, behind}
+use Rattle.c_meaning.specs.Values.{Undefined, Address, Num, on_ok}
 use Rattle.area_objects.specs.Shapes.{Naming, shape, members, c_path_row, place}
 use Rattle.area_objects.specs.Located.{many_fields, Numbered, NumberedFrom, begins, located}
 use Rattle.area_objects.specs.PlaceLaws.{FieldsInOrder, FieldsLocated, ElementsLocated, PartsPointedTo}

@@ -1,40 +1,32 @@
 -- What the places of C read and are assigned, and what the outside sees behind pointers and of the objects of file scope.
-use Rattle.std.proofs.Common.{◌≡◌, ℕ, zero, suc, ◌+◌, ℤ, List, [], ◌∷◌, length, map, slice_get, Option, Some, None, Result, Ok, Err, refl, sym, ◌∙◌, ap, subst, arith, if◌then◌else◌}
+use Rattle.std.proofs.Common.{◌≡◌, ℕ, suc, ◌+◌, List, [], ◌∷◌, map, slice_get, Some, Ok, Err, refl, sym, ◌∙◌, ap, subst, arith, if◌then◌else◌}
 use Rattle.std.specs.List.{zip}
 use Rattle.run_records.specs.declared.AreaCells.{AreaCells}
 use Rattle.run_records.specs.declared.Piece.TheVariants as piece
-use Rattle.type_trees.specs.Trees.{Leaf}
 use Rattle.type_trees.specs.Layouts.{Metric, lay}
-use Rattle.type_trees.specs.Values.{Cell, cells}
+use Rattle.type_trees.specs.Values.{cells}
 use Rattle.area_types.specs.Tables.{Table, written_out}
-use Rattle.area_types.specs.Trees.{Written}
 use Rattle.core_tree.specs.Syntax.{AreaCore}
-use Rattle.c_memory.specs.Abstract.{Operations}
-use Rattle.c_memory.specs.Access.{Fault}
 use Rattle.c_memory.specs.Copies.{read_each}
 use Rattle.c_memory.specs.Initializers as values
-use Rattle.c_memory.specs.ValueLaws.{LawfulValues}
 use Rattle.c_ast.specs.declared.CKind.TheVariants.{Scalar}
 use Rattle.c_ast.specs.declared.CScalar.{CScalar}
 use Rattle.c_ast.specs.declared.CStruct.{CStruct}
 use Rattle.c_ast.specs.declared.Target.{Target}
-use Rattle.c_ast.specs.Conversions.{can_hold}
 use Rattle.c_ast.specs.Names.{outer_name}
 use Rattle.c_ast.specs.Scalars.{metric_of}
-use Rattle.c_ast.specs.Structs.{tree}
-use Rattle.c_ast.specs.Syntax.{Name, FileObject}
+use Rattle.c_ast.specs.Syntax.{FileObject}
 use Rattle.c_ast.specs.Targets.{table_of}
 use Rattle.c_meaning.specs.Initializers.{as_number}
 use Rattle.c_meaning.specs.Memory.{memory_of, nought, answered, unless_refused}
 use Rattle.c_meaning.specs.Places.{of_scalar}
 use Rattle.c_meaning.specs.State.{CState, shown, cells_of, seen_from}
 use Rattle.c_meaning.specs.Values.{Num, Stuck, on_ok}
-use Rattle.core_meaning.specs.Areas.{Area, AreaState, Areas, Live}
+use Rattle.core_meaning.specs.Areas.{Area, Areas, Live}
 use Rattle.core_meaning.specs.State.{seen_as}
-use Rattle.area_objects.specs.Shapes.{Naming, shape, place, part_scalars, base_of}
+use Rattle.area_objects.specs.Shapes.{Naming, shape, place}
 use Rattle.area_objects.specs.Holds.{HoldsArea, CanHold}
-use Rattle.area_objects.specs.Both.{Done}
-use Rattle.area_objects.specs.Located.{begins, IsType, SameGlobals}
+use Rattle.area_objects.specs.Located.{IsType, SameGlobals}
 use Rattle.area_objects.specs.PlaceLaws.{PlacesRead, PlacesAssigned, ObjectsInitialized, PointersShow, AreasSeen}
 use Rattle.area_objects.proofs.Alike.{lawful_in, values_in}
 use Rattle.area_objects.proofs.Kept.{map_same, as_value}

@@ -1,5 +1,5 @@
 -- Arguments of an import, one after another: a reference and its pointer lead to the same part, also once other parts were written.
-use Rattle.std.proofs.Common.{◌≡◌, ◌≢◌, ℕ, ◌==◌, ℤ, List, [], ◌∷◌, length, drop, Bool, true, false, slice_get, Option, Some, None, Result, Ok, Err, refl, sym, ◌∙◌, ap, subst, arith}
+use Rattle.std.proofs.Common.{◌≡◌, ◌≢◌, ℕ, ◌==◌, ℤ, List, [], ◌∷◌, length, drop, Bool, true, false, slice_get, Option, Some, None, Ok, refl, sym, ◌∙◌, ap, subst}
 use Rattle.std.specs.Option.{option_map, option_and_then}
 use Rattle.std.proofs.lemmas.Bool.{eqb-true, eqb-false}
 use Rattle.run_records.specs.declared.Piece.{Piece}
@@ -29,9 +29,9 @@ use Rattle.core_meaning.specs.Imports.{piece_of, pieces_of, writable, behind, wr
 use Rattle.core_meaning.specs.Values as source
 use Rattle.core_meaning.proofs.Areas.{others_stay}
 use Rattle.area_objects.specs.Shapes.{Naming, shape, part_scalars}
-use Rattle.area_objects.specs.Holds.{CellsFit, CanHold}
-use Rattle.area_objects.specs.Both.{Map, LiveIn, Done}
-use Rattle.area_objects.specs.Located.{begins, IsType}
+use Rattle.area_objects.specs.Holds.{CanHold}
+use Rattle.area_objects.specs.Both.{Map, LiveIn}
+use Rattle.area_objects.specs.Located.{begins}
 use Rattle.area_objects.specs.PlaceLaws.{BothIn}
 use Rattle.area_objects.specs.Passed.{Points, Passed, AllPassed, ArgumentsSeen, Gets, AllGet, Replied, ArgumentsWritten}
 use Rattle.area_objects.proofs.Alike.{lawful_in, values_in}

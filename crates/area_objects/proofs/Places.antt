@@ -1,5 +1,5 @@
 -- Lists by place, and what the places of the map of areas hold after a change of it.
-use Rattle.std.proofs.Common.{◌≡◌, ◌≢◌, ℕ, zero, suc, ◌<◌, ◌≤◌, List, [], ◌∷◌, ◌++◌, length, slice_get, Option, Some, None, refl, ap, arith, ◌⊎◌, ⊎_elim, inl, inr}
+use Rattle.std.proofs.Common.{◌≡◌, ℕ, zero, suc, ◌<◌, List, [], ◌∷◌, ◌++◌, length, slice_get, Some, refl, ap, arith, ◌⊎◌, ⊎_elim, inl, inr}
 use Rattle.core_meaning.specs.Areas.{Held, Area, AreaState, Live, Marked, Gone, Areas, at_place, from_place, with_part, put_part, put_at, marked, mark_from, take_from}
 use Rattle.area_objects.specs.Both.{Map, Extends}
 

@@ -1,5 +1,5 @@
 -- What is read from the object of a live area.
-use Rattle.std.proofs.Common.{◌≡◌, ℕ, ℤ, Ok, ◌∙◌, ap}
+use Rattle.std.proofs.Common.{ℤ, Ok, ◌∙◌, ap}
 use Rattle.type_trees.specs.Trees.{Leaf}
 use Rattle.type_trees.specs.Layouts.{Metric}
 use Rattle.type_trees.specs.Values.{Cell, cells}

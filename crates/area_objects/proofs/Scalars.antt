@@ -1,22 +1,22 @@
 -- Each number of a stored type is one of its scalar's.
-use Rattle.std.proofs.Common.{◌≤◌, ℕ, zero, suc, nat_le, ℤ, pos, List, slice_get, unwrap_or, Option, Some, None, false, IsTrue, refl, sym, subst, arith}
+use Rattle.std.proofs.Common.{◌≤◌, ℕ, zero, suc, nat_le, ℤ, slice_get, unwrap_or, Option, Some, None, false, IsTrue, sym, subst, arith}
 use Rattle.std.proofs.lemmas.Int.{ints}
 use Rattle.iv_words.specs.declared.IntKind.{IntKind}
-use Rattle.iv_words.specs.declared.IntKind.TheVariants.{U8, U16}
+use Rattle.iv_words.specs.declared.IntKind.TheVariants.{U8}
 use Rattle.iv_words.specs.Kinds.{in_range, in_range_of}
 use Rattle.index_types.specs.Indices.{is_index}
 use Rattle.type_trees.specs.Trees.{Leaf, Many, Struct, End, Field}
 use Rattle.type_trees.specs.Values.{Cell, Parts, Values, Nil, Cons, EachOf, Fits, FitsRow}
 use Rattle.area_types.specs.Syntax as types
 use Rattle.area_types.specs.Syntax.{ValueType}
-use Rattle.area_types.specs.Tables.{Table, is_length}
+use Rattle.area_types.specs.Tables.{Table}
 use Rattle.area_types.specs.Trees.{Written, WrittenRow}
 use Rattle.area_types.proofs.Truths.{both, is_at_most}
 use Rattle.core_tree.specs.Types.{is_word, is_value}
 use Rattle.c_ast.specs.Targets.{TargetTable}
 use Rattle.core_meaning.specs.Areas.{Held}
 use Rattle.area_objects.specs.Shapes.{Naming}
-use Rattle.area_objects.specs.Holds.{CanHold, CellsFit}
+use Rattle.area_objects.specs.Holds.{CanHold}
 use Rattle.area_objects.specs.Scalars.{NumbersCanBeHeld, IndicesSmall, IndicesSmallIn, NamesScalars, ValuesCanBeHeld}
 
 truth_in_range : (n : ℤ) → IsTrue (is_index 2 n) → IsTrue (in_range_of 1 false n)

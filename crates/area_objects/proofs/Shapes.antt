@@ -1,11 +1,11 @@
 -- The C type of an area has the area's parts, each at the C path, and as many scalars; and a path behind another leads on from there.
-use Rattle.std.proofs.Common.{◌≡◌, ℕ, zero, suc, ◌+◌, ◌*◌, ◌<◌, List, [], ◌∷◌, ◌++◌, map, Some, None, if◌then◌else◌, refl, sym, ◌∙◌, ap, arith, append-nil}
+use Rattle.std.proofs.Common.{◌≡◌, ℕ, zero, suc, ◌+◌, ◌*◌, List, [], ◌∷◌, ◌++◌, map, Some, None, if◌then◌else◌, refl, sym, ◌∙◌, ap, arith, append-nil}
 use Rattle.std.proofs.lemmas.List.{map-append}
 use Rattle.std.proofs.lemmas.Bool.{lt-ltb}
 use Rattle.type_trees.specs.Trees.{Leaf, Many, Struct, End, Field, repeated, scalars, scalars_row, count, count_row, part, part_row}
 use Rattle.type_trees.specs.Layouts.{Metric, align, size, offset}
 use Rattle.type_trees.proofs.Multiples.{up_none}
-use Rattle.type_trees.proofs.Paths.{part_append, offset_append}
+use Rattle.type_trees.proofs.Paths.{offset_append}
 use Rattle.type_trees.proofs.Windows.{within}
 use Rattle.area_types.specs.Syntax.{ValueType}
 use Rattle.area_types.specs.Trees.{Written, WrittenRow}

@@ -1,6 +1,6 @@
 -- The value of an area as one of its C type: that of an array stands in a struct of one member. It has the same cells, in the same order, and the
 -- same parts, at the C paths.
-use Rattle.std.proofs.Common.{◌≡◌, ℕ, zero, suc, ℤ, List, [], ◌∷◌, ◌++◌, Some, refl, ◌∙◌, ap, subst, append-nil}
+use Rattle.std.proofs.Common.{◌≡◌, ℕ, zero, suc, ℤ, List, [], ◌∷◌, ◌++◌, Some, refl, ◌∙◌, ap, append-nil}
 use Rattle.type_trees.specs.Trees.{Leaf, Many, Struct, End, Field, part, part_row}
 use Rattle.type_trees.specs.Values.{Cell, Parts, Values, Nil, Cons, cells, cells_row, at, at_row, put, put_row, EachOf, Fits, FitsRow}
 use Rattle.type_trees.proofs.Windows.{within}

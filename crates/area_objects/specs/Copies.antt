@@ -1,9 +1,9 @@
 -- A copy as a compiler makes it, part by part: it fills a part with the first of the new values and keeps the last of the old. What is copied
 -- from is a part of the same type, so the same part, or one that the copy does not touch.
-use Rattle.std.specs.Prelude.{◌≡◌, ℕ, zero, suc, ◌<◌, ℤ, List, [], ◌∷◌, ◌++◌, slice_get, Some}
-use Rattle.type_trees.specs.Trees.{Many, Struct, part}
-use Rattle.type_trees.specs.Values.{Parts, Values, Nil, Cons, HasForm, at, at_row}
-use Rattle.area_types.specs.Trees.{Written, WrittenRow}
+use Rattle.std.specs.Prelude.{◌≡◌, ℕ, zero, suc, ℤ, List, [], ◌∷◌, ◌++◌, slice_get, Some}
+use Rattle.type_trees.specs.Trees.{part}
+use Rattle.type_trees.specs.Values.{Parts, Values, Nil, Cons, at, at_row}
+use Rattle.area_types.specs.Trees.{Written}
 use Rattle.core_meaning.specs.Areas.{Held, Area, Areas, Live, put_at}
 
 -- the first i of the new values, and the others of the old

@@ -1,6 +1,6 @@
 -- A small area as an object, and exactly where its parts stand: examples that hold the definitions fast.
 use Rattle.std.specs.Prelude.{◌≡◌, ℤ, pos, codes, [], ◌∷◌, ◌++◌, false, Ok}
-use Rattle.iv_words.specs.declared.IntKind.TheVariants.{U8, U16}
+use Rattle.iv_words.specs.declared.IntKind.TheVariants.{U16}
 use Rattle.type_trees.specs.Trees.{Leaf, Many, Struct, End, Field}
 use Rattle.type_trees.specs.Values.{Cell, Parts, Values, Nil, Cons, cells}
 use Rattle.area_types.specs.Syntax as types

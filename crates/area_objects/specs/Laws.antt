@@ -1,5 +1,5 @@
 -- What each act on both sides keeps of a memory that is alike to the areas. All is said over any memory that keeps the laws of memory.
-use Rattle.std.specs.Prelude.{◌≡◌, ◌≢◌, ℕ, suc, ◌<◌, ◌≤◌, ℤ, List, [], ◌∷◌, ◌++◌, length, Bool, true, false, slice_get, Option, Some, None, Result, Ok}
+use Rattle.std.specs.Prelude.{◌≡◌, ◌≢◌, ℕ, suc, ◌<◌, ◌≤◌, ℤ, List, [], ◌∷◌, ◌++◌, length, Bool, true, false, slice_get, Option, Some, None, Ok}
 use Rattle.type_trees.specs.Trees.{Leaf, count, part}
 use Rattle.type_trees.specs.Layouts.{Metric}
 use Rattle.type_trees.specs.Values.{Cell, cells, at}
@@ -14,7 +14,7 @@ use Rattle.c_ast.specs.Syntax.{Name}
 use Rattle.c_ast.specs.Targets.{TargetTable}
 use Rattle.core_meaning.specs.Areas.{Held, Area, Areas, Live, filled, put_at, mark_from, take_from}
 use Rattle.area_objects.specs.Shapes.{Naming, shape, place, part_scalars}
-use Rattle.area_objects.specs.Holds.{CellsFit, HoldsArea, memory_in, CanHold}
+use Rattle.area_objects.specs.Holds.{CellsFit, memory_in, CanHold}
 use Rattle.area_objects.specs.Both.{Map, LiveIn, Both, Done}
 
 module _ (m : Metric CScalar) (Can : CScalar → ℤ → Type 0) (M : Operations CScalar Name ℤ) (g : Naming) where

@@ -1,6 +1,6 @@
 -- Arguments of an import on both sides: the same numbers, and references with pointers to the same parts. The outside then sees the same, and
 -- what it writes is written alike.
-use Rattle.std.specs.Prelude.{◌≡◌, ◌≢◌, ℕ, ◌≤◌, ℤ, List, [], ◌∷◌, length, Bool, true, false, slice_get, Option, Some, None, Result, Ok}
+use Rattle.std.specs.Prelude.{◌≡◌, ◌≢◌, ℕ, ◌≤◌, ℤ, List, [], ◌∷◌, length, true, false, slice_get, Option, Some, None, Result, Ok}
 use Rattle.run_records.specs.declared.Piece.{Piece}
 use Rattle.type_trees.specs.Trees.{count, part}
 use Rattle.area_types.specs.Syntax.{ValueType}

@@ -1,5 +1,5 @@
 -- What places of C, their values and what the outside sees come to where the memory is alike to the areas.
-use Rattle.std.specs.Prelude.{◌≡◌, ℕ, ◌<◌, ℤ, pos, List, [], ◌∷◌, ◌++◌, Bool, false, slice_get, Some, Result, Ok}
+use Rattle.std.specs.Prelude.{◌≡◌, ℕ, ◌<◌, ℤ, pos, List, [], ◌∷◌, ◌++◌, Bool, false, slice_get, Some, Ok}
 use Rattle.run_records.specs.declared.Piece.TheVariants as piece
 use Rattle.type_trees.specs.Trees.{Leaf, Many, Struct, part}
 use Rattle.type_trees.specs.Values.{Cell, cells, at}

@@ -1,5 +1,5 @@
 -- Which scalar of C holds a stored value, and that each number of the value's type is one of the scalar's.
-use Rattle.std.specs.Prelude.{◌≡◌, ℕ, ℤ, List, slice_get, unwrap_or, IsTrue}
+use Rattle.std.specs.Prelude.{◌≡◌, ℤ, List, slice_get, unwrap_or, IsTrue}
 use Rattle.iv_words.specs.declared.IntKind.{IntKind}
 use Rattle.iv_words.specs.declared.IntKind.TheVariants.{U8, U16}
 use Rattle.type_trees.specs.Trees.{Leaf, Many, Struct, End, Field}

@@ -1,0 +1,14 @@
+pub mod Shapes
+pub mod Values
+pub mod Places
+pub mod Kept
+pub mod Scalars
+pub mod Readings
+pub mod Writes
+pub mod Lives
+pub mod Alike
+pub mod Located
+pub mod Outside
+pub mod Copies
+pub mod Passed
+pub mod FirstStates

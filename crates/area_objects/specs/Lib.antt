@@ -1,0 +1,11 @@
+pub mod Shapes
+pub mod Holds
+pub mod Both
+pub mod Laws
+pub mod Located
+pub mod PlaceLaws
+pub mod Copies
+pub mod Passed
+pub mod Scalars
+pub mod FirstStates
+pub mod Examples

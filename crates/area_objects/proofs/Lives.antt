@@ -65,12 +65,16 @@ module _ (m : Metric CScalar) (Can : CScalar → ℤ → Type 0) (M : Operations
         (get_append_cases objects (M.count mem) o k l.object)
 
     pub one_more : Both Can M g more_objects more_areas new × (M.count new ≡ suc (M.count mem)) × ((q : ℕ) → q < M.count mem → Same m M mem new q)
-    one_more = (record {
-      many = omega (arith, length-append objects (M.count mem ∷ []), length-append areas (Live a ∷ []), both.many);
-      made = made_before;
-      apart = still_apart;
-      holds = λ k o c l. ⊎_elim (λ h. old k o c h l) (λ h. last k o c h.0 h.1 l) (get_append_cases areas (Live a) (Live c) k l.live);
-    }, made.count, made.others)
+    one_more = (
+      record {
+        many = omega (arith, length-append objects (M.count mem ∷ []), length-append areas (Live a ∷ []), both.many);
+        made = made_before;
+        apart = still_apart;
+        holds = λ k o c l. ⊎_elim (λ h. old k o c h l) (λ h. last k o c h.0 h.1 l) (get_append_cases areas (Live a) (Live c) k l.live);
+      },
+      made.count,
+      made.others,
+    )
 
   pub areas_made : AreasMade m Can M g
   areas_made objects areas mem a both fits = one_more objects areas mem a both fits

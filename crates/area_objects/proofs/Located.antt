@@ -109,11 +109,12 @@ fields_located t g c o ty p k r f b apart numbered leads is =
     let row : CRow = members g r k in
     let found = member_at g k (many_fields r) apart r 0 f f b numbered (omega arith) (omega arith) is in
     let offset_is : offset_row m row (index_of row (g.member k f)) [] 0 ≡ place m g (Struct k r) (f ∷ []) =
-    ap (λ j. offset_row m row j [] 0) found.index ∙ ap (λ q. offset_row m row f q 0) (sym (no_rest r f)) in
-    (part_append ty p (f ∷ []) (Struct k r) leads ∙ is,
-    ap (part_at c (behind to (offset_row m row (index_of row (g.member k f)) [] 0))) found.tree
-    ∙ ap Ok (at_offset c o (place m g ty p + offset_row m row (index_of row (g.member k f)) [] 0) (place m g ty (p ++ f ∷ [])) (shape g b)
-    (omega (arith, offset_is, place_append m g ty p (f ∷ []) (Struct k r) leads))))
+    ap (λ j. offset_row m row j [] 0) found.index ∙ ap (λ q. offset_row m row f q 0) (sym (no_rest r f)) in (
+      part_append ty p (f ∷ []) (Struct k r) leads ∙ is,
+      ap (part_at c (behind to (offset_row m row (index_of row (g.member k f)) [] 0))) found.tree
+          ∙ ap Ok (at_offset c o (place m g ty p + offset_row m row (index_of row (g.member k f)) [] 0) (place m g ty (p ++ f ∷ [])) (shape g b)
+          (omega (arith, offset_is, place_append m g ty p (f ∷ []) (Struct k r) leads))),
+    )
 
 -- ---- an element
 
@@ -130,12 +131,13 @@ elements_located t g c o ty p n i b kind leads low =
     let start : x ≡ 0 = ap (λ z. offset_row m row (if z then 0 else 1) [] 0) self ∙ omega (arith, up_none (align m (shape g b))) in
     let there : part (Many n b) (i ∷ []) ≡ Some b = ap (λ z. if z then Some b else None) (lt-ltb i n low) in
     let array : member_of t g.elements (located t g c o ty p (Many n b)) ≡ Ok (Located c (behind to x) (Many n (shape g b))) =
-    ap (λ z. part_at c (behind to x) (if z then Some (Many n (shape g b)) else None)) self in
-    (part_append ty p (i ∷ []) (Many n b) leads ∙ there,
-    ap (λ l. on_ok l (λ q. element_of t q (Num kind (pos i)))) array
-    ∙ ap (λ z. if z then Ok (Located c (behind (behind to x) (i * size m (shape g b))) (shape g b)) else Err (Undefined Bounds)) (in_bounds i n low)
-    ∙ ap Ok (at_offset c o (place m g ty p + x + i * size m (shape g b)) (place m g ty (p ++ i ∷ [])) (shape g b)
-    (omega (arith, start, place_append m g ty p (i ∷ []) (Many n b) leads, place_element m g n i b))))
+    ap (λ z. part_at c (behind to x) (if z then Some (Many n (shape g b)) else None)) self in (
+      part_append ty p (i ∷ []) (Many n b) leads ∙ there,
+      ap (λ l. on_ok l (λ q. element_of t q (Num kind (pos i)))) array
+          ∙ ap (λ z. if z then Ok (Located c (behind (behind to x) (i * size m (shape g b))) (shape g b)) else Err (Undefined Bounds)) (in_bounds i n low)
+          ∙ ap Ok (at_offset c o (place m g ty p + x + i * size m (shape g b)) (place m g ty (p ++ i ∷ [])) (shape g b)
+          (omega (arith, start, place_append m g ty p (i ∷ []) (Many n b) leads, place_element m g n i b))),
+    )
 
 -- ---- pointers
 

@@ -46,11 +46,12 @@ pub places_assigned : PlacesAssigned
 places_assigned t g objects areas s k o a c p x v n both lives mutable leads number fits =
     let m : Metric CScalar = metric_of t in
     let at : ℕ × CScalar = (place m g a.ty p, g.scalar x) in
-    let r = cells_stored m (CanHold (table_of t)) (memory_of t) (lawful_in (table_of t)) (values_in (table_of t)) g objects areas s.objects k o a p x n both lives mutable leads fits in
-    (r.1,
-    ap (λ z. unless_refused z (on_ok (as_number t (g.scalar x) v) (λ q. answered ((memory_of t).write s.objects o at q)))) r.0
-    ∙ ap (λ z. on_ok z (λ q. answered ((memory_of t).write s.objects o at q))) number
-    ∙ ap answered r.1.is)
+    let r = cells_stored m (CanHold (table_of t)) (memory_of t) (lawful_in (table_of t)) (values_in (table_of t)) g objects areas s.objects k o a p x n both lives mutable leads fits in (
+      r.1,
+      ap (λ z. unless_refused z (on_ok (as_number t (g.scalar x) v) (λ q. answered ((memory_of t).write s.objects o at q)))) r.0
+          ∙ ap (λ z. on_ok z (λ q. answered ((memory_of t).write s.objects o at q))) number
+          ∙ ap answered r.1.is,
+    )
 
 pub objects_initialized : ObjectsInitialized
 objects_initialized t g ty held c mem given numbers are gives =

@@ -77,10 +77,11 @@ module _ (t : Target) (g : Naming) (structs : List CStruct) (objects : Map) (are
   all_seen core (ty ∷ params) (v ∷ vs) [] h = absurd h
   all_seen core (ty ∷ params) (v ∷ vs) (u ∷ us) h =
       let one = one_seen core ty v u h.0 in
-      let more = all_seen core params vs us h.1 in
-      (one.piece ∷ more.0,
-      ap (λ x. option_and_then (λ p. option_map (λ ps. p ∷ ps) (pieces_of areas vs)) x) one.source_is ∙ ap (option_map (λ ps. one.piece ∷ ps)) more.1,
-      ap (λ x. on_ok x (λ p. on_ok (calls.pieces_of t structs mem us) (λ ps. Ok (p ∷ ps)))) one.target_is ∙ ap (λ x. on_ok x (λ ps. Ok (one.piece ∷ ps))) more.2)
+      let more = all_seen core params vs us h.1 in (
+        one.piece ∷ more.0,
+        ap (λ x. option_and_then (λ p. option_map (λ ps. p ∷ ps) (pieces_of areas vs)) x) one.source_is ∙ ap (option_map (λ ps. one.piece ∷ ps)) more.1,
+        ap (λ x. on_ok x (λ p. on_ok (calls.pieces_of t structs mem us) (λ ps. Ok (p ∷ ps)))) one.target_is ∙ ap (λ x. on_ok x (λ ps. Ok (one.piece ∷ ps))) more.2,
+      )
 
 pub arguments_seen : ArgumentsSeen
 arguments_seen t g structs core objects areas mem params vs us both h = all_seen t g structs objects areas mem both core params vs us h
@@ -111,16 +112,19 @@ module _ (t : Target) (g : Naming) (structs : List CStruct) (objects : Map) (are
   points_still : (k : ℕ) (path : List ℕ) (b : CBase) (to : Address) (p : Points t g structs objects areas k path b to)
       → (q : Points t g structs objects now k path b to) × (q.content ≡ p.content) × (p.area.constant ≡ q.area.constant)
   points_still k path b to p =
-      let s = still_live k p.object p.area p.lives in
-      (record {
-        object = p.object;
-        area = s.area;
-        lives = s.lives;
-        content = p.content;
-        leads = ap (λ ty. part ty path) (sym s.type) ∙ p.leads;
-        type = p.type;
-        address = p.address ∙ ap (λ ty. begins t g p.object ty path) s.type;
-      }, refl, s.access)
+      let s = still_live k p.object p.area p.lives in (
+        record {
+          object = p.object;
+          area = s.area;
+          lives = s.lives;
+          content = p.content;
+          leads = ap (λ ty. part ty path) (sym s.type) ∙ p.leads;
+          type = p.type;
+          address = p.address ∙ ap (λ ty. begins t g p.object ty path) s.type;
+        },
+        refl,
+        s.access,
+      )
 
   passed_still : (core : ModuleCore) (ty : ValueType) (v : source.Value) (u : CValue) → Passed t g structs objects areas core ty v u → Passed t g structs objects now core ty v u
   passed_still core ty (source.Num v) (target.Num kind n) h = h

@@ -16,9 +16,10 @@ use Rattle.area_objects.proofs.Kept.{map_same, cell_fits, as_value}
 module _ (m : Metric CScalar) (Can : CScalar → ℤ → Type 0) (M : Operations CScalar Name ℤ) (values : LawfulValues m Can (λ (n : ℤ). n) M) (g : Naming) where
   pub cells_read : CellsRead m Can M g
   cells_read objects areas mem k o a p s n both lives leads is =
-      let h = both.holds k o a lives in
-      (values.cell_read mem o a.constant (shape g a.ty) (c_value a.ty a.held) (c_path a.ty p) (g.scalar s) n (as_value m Can M g mem o a h) (part_shape g a.ty p (Leaf s) leads) (at_c a.ty p (Leaf s) a.held (Cell n) leads is),
-      cell_fits Can g a.ty p s a.held n h.fits leads is)
+      let h = both.holds k o a lives in (
+        values.cell_read mem o a.constant (shape g a.ty) (c_value a.ty a.held) (c_path a.ty p) (g.scalar s) n (as_value m Can M g mem o a h) (part_shape g a.ty p (Leaf s) leads) (at_c a.ty p (Leaf s) a.held (Cell n) leads is),
+        cell_fits Can g a.ty p s a.held n h.fits leads is,
+      )
 
   pub parts_seen : PartsSeen m Can M g
   parts_seen objects areas mem k o a p b u both lives leads is =

@@ -96,9 +96,10 @@ module _ (m : Metric CScalar) (Can : CScalar → ℤ → Type 0) (M : Operations
 
   pub cells_stored : CellsStored m Can M g
   cells_stored objects areas mem k o a p s n both lives mutable leads fits =
-      let done = values.cell_written mem o (shape g a.ty) (c_value a.ty a.held) (c_path a.ty p) (g.scalar s) n (as_mutable m Can M g mem o a mutable (both.holds k o a lives)) (part_shape g a.ty p (Leaf s) leads) fits in
-      (granted mem done.new o (place m g a.ty p, g.scalar s) n done.is,
-      put_done objects areas mem k o a both lives mutable p (Leaf s) (Cell n) leads fits (M.write mem o (place m g a.ty p, g.scalar s) n) done)
+      let done = values.cell_written mem o (shape g a.ty) (c_value a.ty a.held) (c_path a.ty p) (g.scalar s) n (as_mutable m Can M g mem o a mutable (both.holds k o a lives)) (part_shape g a.ty p (Leaf s) leads) fits in (
+        granted mem done.new o (place m g a.ty p, g.scalar s) n done.is,
+        put_done objects areas mem k o a both lives mutable p (Leaf s) (Cell n) leads fits (M.write mem o (place m g a.ty p, g.scalar s) n) done,
+      )
 
   pub parts_put : PartsPut m Can M g
   parts_put objects areas mem k o a p b u both lives mutable leads fits =

@@ -1,0 +1,9 @@
+pub mod Bodies
+pub mod Loops
+pub mod Parts
+pub mod Locals
+pub mod Conditions
+pub mod Statements
+pub mod Procedures
+pub mod Units
+pub mod Examples

@@ -1,0 +1,16 @@
+ghost use Rattle.lower_types.specs.Examples as example;
+
+/// Small declarations, and exactly their C.
+pub fn declaration_examples()
+    ensures names { example.NamesStand }
+    ensures met { example.RingsAreMet }
+    ensures structs { example.StructsStand }
+    ensures rings { example.RingsStand }
+    ensures table { example.TableStands }
+    ensures level { example.LevelStands }
+    ensures idle { example.IdleStands }
+    ensures send { example.SendStands }
+    ensures least { example.LeastStands }
+    ensures greatest { example.GreatestSignedStands }
+    ensures unsigned { example.UnsignedStands }
+{}

@@ -1,0 +1,9 @@
+pub mod Frames
+pub mod Pieces
+pub mod Ranges
+pub mod Tests
+pub mod Operators
+pub mod Conversions
+pub mod Choices
+pub mod Expressions
+pub mod Examples

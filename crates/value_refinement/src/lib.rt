@@ -1,0 +1,2 @@
+//! Laws of the C of expressions: it does what the expression does, step for step.
+#![tactic(auto)]

@@ -1,12 +1,14 @@
 -- What is shown of expressions: in any related states, the statements before an expression follow its evaluation, step for step, and what
 -- comes after them goes on from the value. The step of the last operator may still be owed, and credit may be left for a step of C.
-use Rattle.std.specs.Prelude.{◌≡◌, ℕ, ◌+◌, ◌≤◌, List, ◌++◌, Bool, true, false, if◌then◌else◌, Option, IsTrue}
+use Rattle.std.specs.Prelude.{◌≡◌, ℕ, ◌+◌, ◌^◌, ◌<◌, ◌≤◌, List, All, ◌++◌, Bool, true, false, if◌then◌else◌, Option, IsTrue}
 use Rattle.step_semantics.specs.Control.{Control}
 use Rattle.step_semantics.specs.Follows.{Follows}
 use Rattle.step_semantics.specs.Steps.{World, Part, bind, ticks}
 use Rattle.area_types.specs.Syntax.{ValueType}
 use Rattle.area_types.specs.Tables.{has_index_length}
 use Rattle.source_types.specs.Values.{is_reference}
+use Rattle.core_tree.specs.Checks.{expr_checks}
+use Rattle.core_tree.specs.declared.Check.{Check}
 use Rattle.core_tree.specs.Syntax.{ExprCore, type_of}
 use Rattle.core_tree.specs.TypedExpressions.{ExprTyped}
 use Rattle.core_meaning.specs.Expressions.{eval}
@@ -44,6 +46,10 @@ pub record Stage (g : Setting) (s : State) : Type 0 where
   pub fits : (e : ExprCore) (v : Value) → ExprTyped g.env g.scope e → Gives g.frame.core g.outcome s e v → ValueFits g.frame.core entry s.areas (type_of e) v
   pub indexed : (e : ExprCore) → ExprTyped g.env g.scope e → IsTrue (has_index_length (type_of e))
 
+-- its checks have numbers that C has constants for
+abbrev pub Numbered : List Check → Type 0
+Numbered checks = All (λ c. c.site < 2 ^ 32) checks
+
 -- ---- following
 
 -- `rest` are the statements behind those of the expression
@@ -77,5 +83,5 @@ module _ (g : Setting) (objects : Map) (s : State) where
 
 abbrev pub ExpressionsFollow : Type 1
 ExpressionsFollow =
-    (g : Setting) → Set g → (objects : Map) (s : State) → Stage g s → (e : ExprCore) → ExprTyped g.env g.scope e
+    (g : Setting) → Set g → (objects : Map) (s : State) → Stage g s → (e : ExprCore) → ExprTyped g.env g.scope e → Numbered (expr_checks e)
     → RawFollows g objects s e × (IsTrue (is_reference (type_of e)) → PlaceFollows g objects s e)

@@ -2,6 +2,7 @@
 use Rattle.std.specs.Prelude.{◌≡◌, ℕ, List, [], Contains, slice_get, Bool, false, Some, Ok}
 use Rattle.type_trees.specs.Trees.{part}
 use Rattle.area_types.specs.Syntax.{ValueType, Truth, Int, Ix, Bits, Ref}
+use Rattle.area_types.specs.Tables.{written_out}
 use Rattle.area_types.specs.Trees.{Written}
 use Rattle.core_tree.specs.Syntax.{AreaCore}
 use Rattle.c_ast.specs.StaticTypes.{Stored}
@@ -53,6 +54,8 @@ module _ (g : Setting) (objects : Map) (areas : Areas) (u : CState) where
 
 pub record Related (g : Setting) (objects : Map) (s : State) (u : CState) : Type 0 where
   pub both : BothIn g.program.target g.naming objects s.areas u.objects
+  -- the areas of the module are live, each with the object of its own number
+  pub own : (k : ℕ) (x : AreaCore) → slice_get g.frame.core.areas k ≡ Some x → (a : Area) × (a.ty ≡ written_out g.frame.core.structs x.area) × LiveIn objects s.areas k k a
   pub globals : (k : ℕ) (a : AreaCore) → slice_get g.frame.core.areas k ≡ Some a → PlaceIs g objects s.areas u a.constant (area_place g.frame k) k []
   pub locals : (x : ℕ) (ty : ValueType) (v : Value) → Contains g.scope x → slice_get g.env.locals x ≡ Some ty → value_of x s ≡ Some v → NameStands g objects s.areas u ty (local_value g.frame x) (local_place g.frame x) v
   pub result : (ty : ValueType) (v : Value) → g.env.outcome ≡ Some ty → g.outcome ≡ Some v → NameStands g objects s.areas u ty g.frame.outcome (At g.frame.outcome) v

@@ -16,7 +16,7 @@ use Rattle.c_ast.specs.Syntax.{Name, Read, Var}
 use Rattle.c_meaning.specs.Calls.{Calls}
 use Rattle.c_meaning.specs.State.{Program}
 use Rattle.area_objects.specs.Shapes.{Naming, base_of}
-use Rattle.area_objects.specs.Located.{FieldsApart, IsType}
+use Rattle.area_objects.specs.Located.{FieldsApart, IsType, SameGlobals}
 use Rattle.lower_types.specs.Names.{local_name, elements_name}
 use Rattle.lower_types.specs.Types.{table_for, base_for, scalar_for}
 use Rattle.lower_values.specs.Expressions.{field_name, fields_of}
@@ -57,6 +57,8 @@ pub record Set (g : Setting) : Type 0 where
   pub elements : g.naming.elements ≡ elements_name
   pub members : (k field : ℕ) → g.naming.member k field ≡ field_name (slice_get (fields_of (slice_get g.frame.table.structs k)) field)
   pub apart : (k : ℕ) (r : WrittenRow) → written_out g.frame.core.structs (types.Struct k) ≡ Struct k r → FieldsApart g.naming k r
+  -- the objects of file scope are those of the areas
+  pub areas : SameGlobals g.naming g.frame.core.structs g.program.unit.structs g.frame.core.areas g.program.unit.objects
   -- of each area that a reference of an expression leads to
   pub types : (e : ExprCore) (constant : Bool) (region : Region) (area : Area) → ExprTyped g.env g.scope e → type_of e ≡ types.Ref constant region area → HasCType g area
   -- locals were declared before

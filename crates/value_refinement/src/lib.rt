@@ -1,2 +1,4 @@
-//! Laws of the C of expressions: it does what the expression does, step for step.
+//! The C of an expression does what the expression does, counted both ways.
 #![tactic(auto)]
+
+pub mod laws;

@@ -1,0 +1,9 @@
+pub mod OperandValues
+pub mod Naturals
+pub mod Remainders
+pub mod SignedChoices
+pub mod WrappedIndices
+pub mod FieldMasks
+pub mod FieldValues
+pub mod FieldGuards
+pub mod FieldSets

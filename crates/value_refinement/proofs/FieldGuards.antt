@@ -1,9 +1,9 @@
 -- The check of `set`: the number for the field is from 0 on and its C type has it, and the guard tests that the field has room for it.
-use Rattle.std.proofs.Common.{◌≡◌, ℕ, ◌-◌, ◌^◌, ◌<◌, ◌≤◌, ℤ, pos, negsuc, List, [], ◌∷◌, Bool, true, false, IsTrue, Result, Ok, Err, arith, refl, sym, subst, ap, ◌∙◌}
+use Rattle.std.proofs.Common.{◌≡◌, ℕ, ◌^◌, ◌≤◌, ℤ, pos, List, [], ◌∷◌, Bool, true, false, IsTrue, Result, Ok, Err, arith, refl, sym, subst, ap, ◌∙◌}
 use Rattle.std.specs.Prelude.{◌||◌, if◌then◌else◌, nat_eq, nat_le, int_le, int_lt, IsSome}
 use Rattle.std.proofs.lemmas.Int.{ints}
 use Rattle.std.proofs.lemmas.Nat.{pow_pos}
-use Rattle.iv_words.specs.Kinds.{is_signed, width, in_range}
+use Rattle.iv_words.specs.Kinds.{is_signed, width}
 use Rattle.iv_words.specs.declared.IntKind.{IntKind}
 use Rattle.iv_words.specs.declared.IntKind.TheVariants.{U8, U16, U32, U64}
 use Rattle.iv_words.proofs.Widths.{range_of_sign, width_most}
@@ -72,23 +72,23 @@ field_from_zero structs bits n h = value_from_zero structs bits.truth (least_uns
 
 -- ---- the answer
 
-abbrev pub room : ℤ → ℕ → Bool
-room n bits = int_lt n (pos (2 ^ bits))
+abbrev pub has_room : ℤ → ℕ → Bool
+has_room n bits = int_lt n (pos (2 ^ bits))
 
 holds_by : (fits : Bool) (v : ℤ) (why : TooWide) → holds (changing (if fits then Ok v else Err why)) Cast ≡ fits
 holds_by true v why = refl
 holds_by false v why = refl
 
-holds_where_room : (layout : BitLayout) (field : ℕ) (x n : ℤ) → holds (changing (changed layout field x n)) Cast ≡ room n (field_at layout field).width
+holds_where_room : (layout : BitLayout) (field : ℕ) (x n : ℤ) → holds (changing (changed layout field x n)) Cast ≡ has_room n (field_at layout field).width
 holds_where_room layout field x n =
-    holds_by (room n (field_at layout field).width) (with_part (field_at layout field).low (field_at layout field).width x n) (record { width = (field_at layout field).width; x = n })
+    holds_by (has_room n (field_at layout field).width) (with_part (field_at layout field).low (field_at layout field).width x n) (record { width = (field_at layout field).width; x = n })
 
 -- a number is at most the mask where the field has room for it
-mask_is_last : (m bits : ℕ) → int_le (pos m) (pos (mask bits)) ≡ room (pos m) bits
-mask_is_last m bits = let some = pow_pos bits in same_test (int_le (pos m) (pos (mask bits))) (room (pos m) bits) (λ le. grind (arith, ints)) (λ l. grind (arith, ints))
+mask_is_last : (m bits : ℕ) → int_le (pos m) (pos (mask bits)) ≡ has_room (pos m) bits
+mask_is_last m bits = let some = pow_pos bits in same_test (int_le (pos m) (pos (mask bits))) (has_room (pos m) bits) (λ le. grind (arith, ints)) (λ l. grind (arith, ints))
 
-pub mask_has : (m bits : ℕ) → nat_le m (mask bits) ≡ room (pos m) bits
-mask_has m bits = let some = pow_pos bits in same_test (nat_le m (mask bits)) (room (pos m) bits) (λ le. grind (arith, ints)) (λ l. grind (arith, ints))
+pub mask_has : (m bits : ℕ) → nat_le m (mask bits) ≡ has_room (pos m) bits
+mask_has m bits = let some = pow_pos bits in same_test (nat_le m (mask bits)) (has_room (pos m) bits) (λ le. grind (arith, ints)) (λ l. grind (arith, ints))
 
 truth_is_true : (test : Bool) → is_true (truth test) ≡ Ok test
 truth_is_true true = refl
@@ -103,7 +103,7 @@ module _ (p : Program) (u : CState) where
   pub value_is : (structs : Table) (table : TypeTable) (bits : FieldBits) (e : Expr) (n : ℤ) → ExactlyIs p u (scalar_for table (field_type bits)) e n → IsTrue (is_value structs (field_type bits) n) → IsHeld p u e n
   value_is structs table bits e n is h = exact_held p u (scalar_for table (field_type bits)) e n is (value_held (table_of p.target) structs table bits.truth (least_unsigned bits.width) n h)
 
-  guard_tests : (ctable : CTable (table_of p.target)) (bits : FieldBits) (e : Expr) (m : ℕ) → bits.width ≤ 64 → IsHeld p u e (pos m) → TestIs p u (set_guard bits e) (room (pos m) bits.width)
+  guard_tests : (ctable : CTable (table_of p.target)) (bits : FieldBits) (e : Expr) (m : ℕ) → bits.width ≤ 64 → IsHeld p u e (pos m) → TestIs p u (set_guard bits e) (has_room (pos m) bits.width)
   guard_tests ctable bits e m few is =
       let most = mask bits.width in
       subst (TestIs p u (set_guard bits e)) (mask_is_last m bits.width)
@@ -114,10 +114,10 @@ module _ (p : Program) (u : CState) where
   by_settled true guard does fits tests = fits refl
   by_settled false guard does fits tests = tests
 
-  settled_fits : (k : CScalar) (layout : BitLayout) (field : ℕ) (e : Expr) (m : ℕ) → ExactlyIs p u k e (pos m) → set_settled layout field e ≡ true → IsTrue (room (pos m) (field_at layout field).width)
+  settled_fits : (k : CScalar) (layout : BitLayout) (field : ℕ) (e : Expr) (m : ℕ) → ExactlyIs p u k e (pos m) → set_settled layout field e ≡ true → IsTrue (has_room (pos m) (field_at layout field).width)
   settled_fits k layout field (Number v suffix) m is settled =
       let both : (pos v ≡ pos m) × IsSome (constant_type p.target suffix v) = is in
-      subst (λ w. IsTrue (room w (field_at layout field).width)) both.0 (sym (mask_has v (field_at layout field).width) ∙ settled)
+      subst (λ w. IsTrue (has_room w (field_at layout field).width)) both.0 (sym (mask_has v (field_at layout field).width) ∙ settled)
   settled_fits k layout field (Read place) m is settled = cc
   settled_fits k layout field (Address place) m is settled = cc
   settled_fits k layout field (Unary op e) m is settled = cc
@@ -130,19 +130,19 @@ module _ (p : Program) (u : CState) where
     one_tells : (which : SiteKind) → which ≡ Cast → GuardTells settled p u guard (holds answer which)
     one_tells which is = subst (λ k. GuardTells settled p u guard (holds answer k)) (sym is) told
 
-    pub checks_tell : (has_none : Bool) (cs : List Check) → AreFor cs (unless has_none Cast) → GuardsTell p u (λ which. guard) (λ which. settled) answer cs
+    checks_tell : (has_none : Bool) (cs : List Check) → AreFor cs (unless has_none Cast) → GuardsTell p u (λ which. guard) (λ which. settled) answer cs
     checks_tell has_none [] is = tt
     checks_tell true (check ∷ cs) is = cc
     checks_tell false (check ∷ []) is = let e : check.kind ≡ Cast = cc in (one_tells check.kind e, λ h. tt)
     checks_tell false (check ∷ other ∷ cs) is = cc
 
-  pub set_guards_tell : (structs : Table) (table : TypeTable) (layout : BitLayout) (field : ℕ) (bits : FieldBits) (e : Expr) (x : ℤ) (m : ℕ) (cs : List Check) → IsInWord layout field bits
+  pub set_guards_tell : (table : TypeTable) (layout : BitLayout) (field : ℕ) (bits : FieldBits) (e : Expr) (x : ℤ) (m : ℕ) (cs : List Check) → IsInWord layout field bits
       → ExactlyIs p u (scalar_for table (field_type bits)) e (pos m) → IsHeld p u e (pos m) → AreFor cs (set_sites bits)
       → GuardsTell p u (λ which. set_guard bits e) (λ which. set_settled layout field e) (changing (changed layout field x (pos m))) cs
-  set_guards_tell structs table layout field bits e x m cs i exact is sites =
+  set_guards_tell table layout field bits e x m cs i exact is sites =
       let inside = i.inside in
       let most = width_most layout.word in
-      let same : room (pos m) (field_at layout field).width ≡ room (pos m) bits.width = ap (λ (b : FieldBits). room (pos m) b.width) i.is in
+      let same : has_room (pos m) (field_at layout field).width ≡ has_room (pos m) bits.width = ap (λ (b : FieldBits). has_room (pos m) b.width) i.is in
       let does = holds_where_room layout field x (pos m) in
       checks_tell (set_guard bits e) (set_settled layout field e) (changing (changed layout field x (pos m)))
       (by_settled (set_settled layout field e) (set_guard bits e) (holds (changing (changed layout field x (pos m))) Cast)

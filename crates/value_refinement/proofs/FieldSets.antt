@@ -1,9 +1,9 @@
 -- `set(e, f, value)`: the word without the field's bits, with the number in their place.
-use Rattle.std.proofs.Common.{◌≡◌, ℕ, ◌+◌, ◌-◌, ◌*◌, ◌^◌, ◌<◌, ◌≤◌, ℤ, pos, negsuc, Bool, true, false, IsTrue, Some, Result, Ok, Err, arith, refl, sym, subst, ap, ◌∙◌}
-use Rattle.std.specs.Prelude.{if◌then◌else◌, nat_eq, nat_le, int_le, IsSome, bit_and, bit_or}
+use Rattle.std.proofs.Common.{◌≡◌, ℕ, ◌+◌, ◌-◌, ◌*◌, ◌^◌, ◌<◌, ◌≤◌, ℤ, pos, negsuc, Bool, true, false, Some, Ok, Err, arith, refl, sym, subst, ap, ◌∙◌}
+use Rattle.std.specs.Prelude.{if◌then◌else◌, nat_eq, nat_le, IsSome, bit_and, bit_or}
 use Rattle.std.proofs.lemmas.Int.{ints}
 use Rattle.std.proofs.lemmas.Nat.{pow_pos, shl_below, or_lt}
-use Rattle.iv_words.specs.Kinds.{width, is_signed, in_range}
+use Rattle.iv_words.specs.Kinds.{width, is_signed}
 use Rattle.iv_words.specs.declared.IntKind.{IntKind}
 use Rattle.iv_words.proofs.Ranges.{powers_grow}
 use Rattle.iv_words.proofs.Widths.{width_most, in_range_by_sign, range_of_sign}
@@ -14,7 +14,6 @@ use Rattle.bit_data.specs.Fields.{field_at, changed, with_part}
 use Rattle.bit_data.proofs.Parts.{put, with_is}
 use Rattle.core_tree.specs.Operators.{field_type}
 use Rattle.core_meaning.specs.Answers.{changing}
-use Rattle.core_meaning.specs.Checks.{Answer}
 use Rattle.c_ast.specs.declared.CScalar.{CScalar}
 use Rattle.c_ast.specs.declared.CScalar.TheVariants as scalar
 use Rattle.c_ast.specs.declared.CBinary.TheVariants.{And, Or, Shl}
@@ -36,14 +35,14 @@ use Rattle.value_refinement.proofs.OperandValues.{IsHeld}
 use Rattle.value_refinement.proofs.Naturals.{IsWord, word_held, unsigned_held, given_word, bits_give, left_shift_gives}
 use Rattle.value_refinement.proofs.FieldMasks.{cleared_is_small, number_is_put}
 use Rattle.value_refinement.proofs.FieldValues.{IsInWord, field_in_word, word_of}
-use Rattle.value_refinement.proofs.FieldGuards.{room, field_from_zero, value_is, mask_has, set_guards_tell}
+use Rattle.value_refinement.proofs.FieldGuards.{has_room, field_from_zero, value_is, mask_has, set_guards_tell}
 
 -- a number that fits, in the field's place
-pub moved_small : (word low bits m : ℕ) → low + bits ≤ word → m < 2 ^ bits → m * 2 ^ low < 2 ^ word
+moved_small : (word low bits m : ℕ) → low + bits ≤ word → m < 2 ^ bits → m * 2 ^ low < 2 ^ word
 moved_small word low bits m inside l = let up = shl_below m bits low l in let g = powers_grow (bits + low) word (omega arith) in omega arith
 
-in_room : (m bits : ℕ) → room (pos m) bits ≡ true → m < 2 ^ bits
-in_room m bits h = grind (arith, ints)
+small_where_room : (m bits : ℕ) → has_room (pos m) bits ≡ true → m < 2 ^ bits
+small_where_room m bits h = grind (arith, ints)
 
 module _ (p : Program) (u : CState) (table : CTable (table_of p.target)) (word : IntKind) (unsigned_one : is_signed word ≡ false) (b : FieldBits) (inside : b.low + b.width ≤ width word)
     (some : 1 ≤ b.width) (m : ℕ) (l : m < 2 ^ b.width) where
@@ -95,7 +94,7 @@ module _ (p : Program) (u : CState) (table : CTable (table_of p.target)) (word :
         let whole = pow_pos w in
         bits_give p u table And bit_and (λ v z. refl) w e (unsigned ones) n ones left (unsigned_held p u table ones (omega arith)) (cleared_is_small w b.low b.width n inside left.small)
 
-    pub put_gives : (x : Expr) → IsHeld p u (placed word b x) (pos (m * 2 ^ b.low)) → IsWord p u table (width word) (Binary Or (without (width word) b e) (placed word b x)) (put b.low b.width n m)
+    put_gives : (x : Expr) → IsHeld p u (placed word b x) (pos (m * 2 ^ b.low)) → IsWord p u table (width word) (Binary Or (without (width word) b e) (placed word b x)) (put b.low b.width n m)
     put_gives x right =
         let cleared = bit_and n (mask w - mask b.width * 2 ^ b.low) in
         let cleared_word = cleared_gives in
@@ -136,20 +135,21 @@ module _ (p : Program) (u : CState) (layout : BitLayout) (field : ℕ) (bits : F
         converted = held_stays (width word) (is_signed word) (pos r) (in_range_by_sign word false i.unsigned_one (pos r) (natural (width word) r g.small));
       })
 
-  pub set_converts : (r : ℤ) → changing (changed layout field (pos n) (pos m)) ≡ Ok r → Converts p u (scalar.Int word) (put_in (Some word) bits e value) r
+  set_converts : (r : ℤ) → changing (changed layout field (pos n) (pos m)) ≡ Ok r → Converts p u (scalar.Int word) (put_in (Some word) bits e value) r
   set_converts r h =
       let there = field_at layout field in
-      let a = answered (room (pos m) there.width) (with_part there.low there.width (pos n) (pos m)) r (record { width = there.width; x = pos m }) h in
-      let fits : room (pos m) bits.width ≡ true = ap (λ (b : FieldBits). room (pos m) b.width) (sym i.is) ∙ a.fitting in
+      let a = answered (has_room (pos m) there.width) (with_part there.low there.width (pos n) (pos m)) r (record { width = there.width; x = pos m }) h in
+      let fits : has_room (pos m) bits.width ≡ true = ap (λ (b : FieldBits). has_room (pos m) b.width) (sym i.is) ∙ a.fitting in
       let result : with_part bits.low bits.width (pos n) (pos m) ≡ r = ap (λ (b : FieldBits). with_part b.low b.width (pos n) (pos m)) (sym i.is) ∙ a.result in
-      subst (Converts p u (scalar.Int word) (put_in (Some word) bits e value)) result (fitting_sets (in_room m bits.width fits))
+      subst (Converts p u (scalar.Int word) (put_in (Some word) bits e value)) result (fitting_sets (small_where_room m bits.width fits))
 
 pub sets_answer : SetsAnswer
 sets_answer f p target u layout field bits e value (pos x) (pos n) cs at operand exact is sites =
     let i = field_in_word layout field bits at in
-    let held = value_is p u f.core.structs f.table bits value (pos n) exact is in
-    (set_guards_tell p u f.core.structs f.table layout field bits value (pos x) n cs i exact held sites,
-        set_converts p u layout field bits i e value x n (scalar_for f.table (field_type bits)) operand exact held)
+    let held = value_is p u f.core.structs f.table bits value (pos n) exact is in (
+      set_guards_tell p u f.table layout field bits value (pos x) n cs i exact held sites,
+      set_converts p u layout field bits i e value x n (scalar_for f.table (field_type bits)) operand exact held,
+    )
 sets_answer f p target u layout field bits e value x (negsuc n) cs at operand exact is sites = let from = field_from_zero f.core.structs bits (negsuc n) is in let no : ⊥ = cc in absurd no
 sets_answer f p target u layout field bits e value (negsuc x) n cs at operand exact is sites =
     let i = field_in_word layout field bits at in

@@ -1,10 +1,10 @@
 -- A field of bit data: its bits, moved down and taken from the word.
-use Rattle.std.proofs.Common.{◌≡◌, ℕ, ◌+◌, ◌-◌, ◌/◌, ◌%◌, ◌^◌, ◌<◌, ◌≤◌, ℤ, pos, negsuc, List, [], length, Bool, true, false, IsTrue, Some, Ok, arith, refl, sym, subst, ap, ◌∙◌}
-use Rattle.std.specs.Prelude.{if◌then◌else◌, nat_eq, slice_get, bit_and}
+use Rattle.std.proofs.Common.{◌≡◌, ℕ, ◌+◌, ◌/◌, ◌%◌, ◌^◌, ◌<◌, ◌≤◌, ℤ, pos, negsuc, [], Bool, true, false, Ok, arith, refl, sym, subst, ap, ◌∙◌}
+use Rattle.std.specs.Prelude.{if◌then◌else◌, nat_eq, bit_and}
 use Rattle.std.proofs.lemmas.Nat.{pow_pos, and_le_l, and_mask}
 use Rattle.std.proofs.lemmas.Option.{slice_get_within, get_or_from_slice_get}
 use Rattle.std.proofs.Math.Nat.{div-one}
-use Rattle.iv_words.specs.Kinds.{width, is_signed, in_range}
+use Rattle.iv_words.specs.Kinds.{width, is_signed}
 use Rattle.iv_words.specs.declared.IntKind.{IntKind}
 use Rattle.iv_words.proofs.Ranges.{powers_grow}
 use Rattle.iv_words.proofs.Widths.{width_most, range_of_sign}
@@ -19,8 +19,6 @@ use Rattle.c_ast.specs.Syntax.{Expr, Number, Binary}
 use Rattle.c_ast.specs.Targets.{table_of}
 use Rattle.c_meaning.specs.Values.{Num}
 use Rattle.c_meaning.specs.State.{Program, CState}
-use Rattle.c_meaning.specs.Expressions.{eval}
-use Rattle.overflow_checks.specs.Contract.{IsGiven}
 use Rattle.overflow_checks.specs.Parts.{operand_of}
 use Rattle.overflow_checks.proofs.Tables.{CTable, table_of_target}
 use Rattle.overflow_checks.proofs.Numbers.{below}
@@ -28,7 +26,7 @@ use Rattle.lower_values.specs.Conversions.{mask, unsigned, shifted_down}
 use Rattle.lower_values.specs.Conversions as lowered
 use Rattle.value_refinement.specs.FormLaws.{FieldIs, Operand, FieldsAnswer}
 use Rattle.value_refinement.specs.Standing.{IsNumber}
-use Rattle.value_refinement.proofs.OperandValues.{IsHeld, operand_given}
+use Rattle.value_refinement.proofs.OperandValues.{operand_given}
 use Rattle.value_refinement.proofs.Naturals.{IsWord, unsigned_held, given_word, bits_give, right_shift_gives}
 
 -- ---- where the field is
@@ -72,10 +70,10 @@ module _ (p : Program) (u : CState) (table : CTable (table_of p.target)) where
         subst (IsWord p u table (width word) e) same w
     shifted_by false some = right_shift_gives p u table (width word) e n low w l (let most = width_most word in omega arith)
 
-    pub shifted : IsWord p u table (width word) (shifted_down low e) (n / 2 ^ low)
+    shifted : IsWord p u table (width word) (shifted_down low e) (n / 2 ^ low)
     shifted = shifted_by (nat_eq low 0) refl
 
-    pub field_gives : (bits : ℕ) → bits ≤ 64 → IsWord p u table (width word) (Binary And (shifted_down low e) (unsigned (mask bits))) (n / 2 ^ low % 2 ^ bits)
+    field_gives : (bits : ℕ) → bits ≤ 64 → IsWord p u table (width word) (Binary And (shifted_down low e) (unsigned (mask bits))) (n / 2 ^ low % 2 ^ bits)
     field_gives bits few =
         let moved = n / 2 ^ low in
         let le = and_le_l moved (mask bits) in

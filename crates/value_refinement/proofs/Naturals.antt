@@ -1,11 +1,11 @@
 -- Numbers from 0 in C: what constants, tests, operators on bits and shifts give on them.
-use Rattle.std.proofs.Common.{◌≡◌, ℕ, ◌-◌, ◌*◌, ◌/◌, ◌^◌, ◌<◌, ◌≤◌, ◌⊎◌, inl, inr, ℤ, pos, ◌-ℤ◌, Bool, true, false, IsTrue, Result, Ok, Err, arith, refl, sym, subst, ap, ◌∙◌}
+use Rattle.std.proofs.Common.{◌≡◌, ℕ, ◌-◌, ◌*◌, ◌/◌, ◌^◌, ◌<◌, ◌≤◌, ◌⊎◌, inl, inr, ℤ, pos, ◌-ℤ◌, Bool, true, false, IsTrue, Result, Ok, Err, arith, refl, ap, ◌∙◌}
 use Rattle.std.specs.Prelude.{◌||◌, if◌then◌else◌, int_le, int_lt, nat_lt}
 use Rattle.std.proofs.lemmas.Int.{ints}
 use Rattle.std.proofs.lemmas.Nat.{pow_pos, pow_below}
 use Rattle.std.proofs.lemmas.Bool.{cases_lt}
 use Rattle.std.proofs.Math.Nat.{div-le_self}
-use Rattle.iv_words.specs.Kinds.{in_range_of, in_range, width, is_signed}
+use Rattle.iv_words.specs.Kinds.{in_range_of, width, is_signed}
 use Rattle.iv_words.specs.declared.IntKind.{IntKind}
 use Rattle.iv_words.proofs.Ranges.{powers_grow}
 use Rattle.iv_words.proofs.Widths.{in_range_by_sign}
@@ -25,7 +25,6 @@ use Rattle.c_meaning.specs.Values.{Trouble, Undefined, CValue, Num}
 use Rattle.c_meaning.specs.Operators.{Operator, fitted, bits_of, number_of_bits, bitwise, shifted_left, shifted_right, computed, usual, compared, binary}
 use Rattle.c_meaning.specs.State.{Program, CState}
 use Rattle.c_meaning.proofs.Bits.{bits_of_natural}
-use Rattle.overflow_checks.specs.Contract.{IsGiven}
 use Rattle.overflow_checks.proofs.Tables.{CTable}
 use Rattle.overflow_checks.proofs.Given.{Gives, of_kind, binary_gives, constant_gives}
 use Rattle.overflow_checks.proofs.Rows.{Tests}
@@ -38,7 +37,7 @@ use Rattle.value_refinement.proofs.OperandValues.{IsHeld}
 -- ---- numbers
 
 -- a number from 0 of a type of so many bits
-pub below_all : (bits : ℕ) (signed : Bool) (n : ℕ) → IsTrue (in_range_of bits signed (pos n)) → n < 2 ^ bits
+below_all : (bits : ℕ) (signed : Bool) (n : ℕ) → IsTrue (in_range_of bits signed (pos n)) → n < 2 ^ bits
 below_all bits false n h = below bits n h
 below_all bits true n h = let l = natural_below bits n h in let g = powers_grow (bits - 1) bits (omega arith) in omega arith
 
@@ -85,10 +84,10 @@ module _ (p : Program) (u : CState) (table : CTable (table_of p.target)) where
   abbrev t : TargetTable
   t = table_of p.target
 
-  abbrev pub unsigned_held : (n : ℕ) → n < 2 ^ 64 → IsHeld p u (Number n U) (pos n)
+  pub unsigned_held : (n : ℕ) → n < 2 ^ 64 → IsHeld p u (Number n U) (pos n)
   unsigned_held n l = let c = unsigned_typed t table n l in record { kind = Computed c.type; gives = constant_gives p u n U c.type c.found_it; has = c.holds }
 
-  abbrev pub plain_held : (n : ℕ) → n < 2 ^ 63 → IsHeld p u (Number n Plain) (pos n)
+  pub plain_held : (n : ℕ) → n < 2 ^ 63 → IsHeld p u (Number n Plain) (pos n)
   plain_held n l = let c = plain_typed t table n l in record { kind = Computed c.type; gives = constant_gives p u n Plain c.type c.found_it; has = c.holds }
 
   -- ---- two numbers from 0
@@ -154,7 +153,7 @@ module _ (p : Program) (u : CState) (table : CTable (table_of p.target)) where
 
     shift_gives : (op : CBinary) (f : Operator) (z : ℕ)
         → ((k : CKind) → binary t op (Num w.kind (pos n)) (Ok (Num k (pos low)))
-            ≡ (if int_lt (pos low) (pos 0) || int_le (pos (arith_bits t c)) (pos low) then Err (Undefined Shift) else computed c (f (arith_bits t c) (arith_signed c) (pos n) (pos low))))
+        ≡ (if int_lt (pos low) (pos 0) || int_le (pos (arith_bits t c)) (pos low) then Err (Undefined Shift) else computed c (f (arith_bits t c) (arith_signed c) (pos n) (pos low))))
         → f (arith_bits t c) (arith_signed c) (pos n) (pos low) ≡ Ok (pos z) → z < 2 ^ bits → IsWord bits (Binary op e (Number low Plain)) z
     shift_gives op f z is result small =
         let amount = plain_held low (let g = powers_grow 6 63 (omega arith) in omega arith) in

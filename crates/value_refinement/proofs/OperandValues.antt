@@ -1,4 +1,5 @@
--- Operands that stand exactly for numbers: an operand of a kind is a value of the kind's type once a constant is cast, and each evaluates to its number, in a type that has it.
+-- Operands that stand exactly for numbers: an operand of a kind is a value of the kind's type once a constant is cast, and each evaluates
+-- to its number, in a type that has it.
 use Rattle.std.proofs.Common.{◌≡◌, ℕ, ℤ, pos, IsTrue, Option, Some, None, Ok, refl, sym, subst}
 use Rattle.std.specs.Prelude.{IsSome}
 use Rattle.iv_words.specs.Kinds.{width, is_signed, in_range}
@@ -47,7 +48,7 @@ module _ (p : Program) (u : CState) where
     has = first_holds (table_of p.target) (candidates suffix) (pos m) c e;
   }
 
-  pub constant_held : (m : ℕ) (suffix : Suffix) → IsSome (constant_type p.target suffix m) → IsHeld (Number m suffix) (pos m)
+  constant_held : (m : ℕ) (suffix : Suffix) → IsSome (constant_type p.target suffix m) → IsHeld (Number m suffix) (pos m)
   constant_held m suffix some = constant_by m suffix (constant_type p.target suffix m) refl some
 
   pub exact_held : (k : CScalar) (e : Expr) (n : ℤ) → ExactlyIs p u k e n → IsTrue (can_hold (table_of p.target) (Scalar k) n) → IsHeld e n

@@ -1,5 +1,5 @@
 -- Remainders of a division by a length: the one toward zero, as C has it, and the one from 0 on.
-use Rattle.std.proofs.Common.{◌≡◌, ℕ, suc, ◌-◌, ◌%◌, ◌^◌, ◌<◌, ◌≤◌, ◌⊎◌, inl, inr, ℤ, pos, negsuc, ◌+ℤ◌, ◌-ℤ◌, ◌*ℤ◌, neg_ℤ, Bool, true, false, IsTrue, Result, Ok, Err, arith, sym, subst, ap, ◌∙◌}
+use Rattle.std.proofs.Common.{◌≡◌, ℕ, suc, ◌-◌, ◌%◌, ◌<◌, ◌≤◌, ◌⊎◌, inl, inr, ℤ, pos, negsuc, ◌+ℤ◌, ◌-ℤ◌, ◌*ℤ◌, neg_ℤ, Bool, true, false, IsTrue, Result, Ok, Err, arith, sym, subst, ap, ◌∙◌}
 use Rattle.std.specs.Prelude.{if◌then◌else◌, int_lt, int_div, int_rem, unsigned_abs}
 use Rattle.std.specs.Ordering.{int_eq}
 use Rattle.std.proofs.lemmas.Int.{ints, rem_below}
@@ -18,7 +18,7 @@ use Rattle.overflow_checks.proofs.Alike.{fitted_held}
 use Rattle.overflow_checks.proofs.SignedNumbers.{natural_below, negative_below, natural_held, opposite_held, quotient_test}
 use Rattle.value_refinement.proofs.Naturals.{not_negative}
 
-pub not_zero : (n : ℕ) → 1 ≤ n → int_eq (pos n) (pos 0) ≡ false
+not_zero : (n : ℕ) → 1 ≤ n → int_eq (pos n) (pos 0) ≡ false
 not_zero n some = let d = Decides-int_eq (pos n) (pos 0) in grind arith
 
 -- the remainder of C, where the quotient fits

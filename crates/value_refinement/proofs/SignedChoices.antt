@@ -41,7 +41,7 @@ module _ (p : Program) (u : CState) (table : CTable (table_of p.target)) (kind :
   abbrev length : Expr
   length = Number n Plain
 
-  length_typed : IsTyped (table_of p.target) table true (pos n) (constant_type_in (table_of p.target) Plain n)
+  length_typed : IsTyped t table true (pos n) (constant_type_in t Plain n)
   length_typed = plain_typed t table n small
 
   abbrev k : CKind
@@ -53,10 +53,10 @@ module _ (p : Program) (u : CState) (table : CTable (table_of p.target)) (kind :
   abbrev rest_type : Arith
   rest_type = common_type t k l
 
-  both : AreSigned (table_of p.target) table (of_kind kind) (Computed length_typed.type) x (pos n)
+  both : AreSigned t table k l x (pos n)
   both = record { left_signed = promoted_signed t table kind signed; right_signed = length_typed.sign; left_has = given.is_in; right_has = length_typed.holds }
 
-  rest_sign : arith_signed (common_type (table_of p.target) (of_kind kind) (Computed length_typed.type)) ≡ true
+  rest_sign : arith_signed rest_type ≡ true
   rest_sign = common_is_signed t table k l x (pos n) both
 
   -- a number of a type that is signed
@@ -74,17 +74,17 @@ module _ (p : Program) (u : CState) (table : CTable (table_of p.target)) (kind :
   abbrev rest_of : Expr
   rest_of = Binary Rem e length
 
-  x_held : IsTrue (in_range_of (arith_bits (table_of p.target) (common_type (table_of p.target) (of_kind kind) (Computed length_typed.type))) true x)
+  x_held : IsTrue (in_range_of (arith_bits t rest_type) true x)
   x_held = as_signed rest_type x rest_sign (signed_left_kept t table k l x (pos n) both)
 
-  rest_gives : Gives p u (Binary Rem e (Number n Plain)) (Num (Computed (common_type (table_of p.target) (of_kind kind) (Computed length_typed.type))) (int_rem x (pos n)))
+  rest_gives : Gives p u rest_of (Num (Computed rest_type) rest)
   rest_gives =
       binary_gives p u Rem e length (Num k x) (Num l (pos n)) given.gives (constant_gives p u n Plain length_typed.type length_typed.found_it)
       ∙ usual_signed t table k l x (pos n) both c.remainder
       ∙ ap (λ sign. computed rest_type (c.remainder (arith_bits t rest_type) sign x (pos n))) rest_sign
       ∙ ap (computed rest_type) (remainder_is (arith_bits t rest_type) true x n some (signed_quotient_held (arith_bits t rest_type) x n some x_held))
 
-  rest_has : Holds (table_of p.target) table (common_type (table_of p.target) (of_kind kind) (Computed length_typed.type)) (int_rem x (pos n))
+  rest_has : Holds t table rest_type rest
   rest_has = of_signed rest_type rest rest_sign (rest_held (arith_bits t rest_type) x n x_held)
 
   -- ---- the sum with the length
@@ -95,7 +95,7 @@ module _ (p : Program) (u : CState) (table : CTable (table_of p.target)) (kind :
   abbrev sum_of : Expr
   sum_of = Binary Add rest_of length
 
-  with_length : AreSigned t table (Computed rest_type) (Computed length_typed.type) rest (pos n)
+  with_length : AreSigned t table (Computed rest_type) l rest (pos n)
   with_length = record { left_signed = rest_sign; right_signed = length_typed.sign; left_has = rest_has; right_has = length_typed.holds }
 
   sum_sign : arith_signed sum_type ≡ true
@@ -121,7 +121,7 @@ module _ (p : Program) (u : CState) (table : CTable (table_of p.target)) (kind :
   type_of f = static_type p u f
 
   abbrev Typed : Expr → CKind → Type 0
-  Typed f kind_of = type_of f ≡ Some (Arithmetic kind_of)
+  Typed f own = type_of f ≡ Some (Arithmetic own)
 
   abbrev constant_of : Option Arith → Option ValueType
   constant_of found = option_map (λ a. Arithmetic (Computed a)) found
@@ -179,8 +179,9 @@ module _ (p : Program) (u : CState) (table : CTable (table_of p.target)) (kind :
       arm_is (eval p rest_of u) (Computed rest_type) rest (signed_right_kept t table (Computed sum_type) (Computed rest_type) (pos n) rest joined) rest_gives
 
   pub signed_remainder : IsNumber p u (remainder true e (Number n Plain)) (moved (int_rem x (pos n)) n)
-  signed_remainder =
-      (Computed whole_type,
-          ap (λ r. let q : Result CValue Trouble = on_ok (on_ok r is_true) (λ holds. as_common t (type_of (remainder true e length)) (if holds then eval p sum_of u else eval p rest_of u)) in q) test_gives
-          ∙ ap (λ o. let q : Result CValue Trouble = on_ok (is_true (truth (int_lt rest (pos 0)))) (λ holds. as_common t o (if holds then eval p sum_of u else eval p rest_of u)) in q) whole_typed
-          ∙ arms (int_lt rest (pos 0)) refl)
+  signed_remainder = (
+    Computed whole_type,
+    ap (λ r. let q : Result CValue Trouble = on_ok (on_ok r is_true) (λ holds. as_common t (type_of (remainder true e length)) (if holds then eval p sum_of u else eval p rest_of u)) in q) test_gives
+        ∙ ap (λ o. let q : Result CValue Trouble = on_ok (is_true (truth (int_lt rest (pos 0)))) (λ holds. as_common t o (if holds then eval p sum_of u else eval p rest_of u)) in q) whole_typed
+        ∙ arms (int_lt rest (pos 0)) refl,
+  )

@@ -1,7 +1,6 @@
 -- `wrapix(N, e)`: the remainder by the length that is not negative.
 use Rattle.std.proofs.Common.{◌≡◌, ℕ, ◌%◌, ◌≤◌, ℤ, pos, negsuc, Bool, true, false, IsTrue, arith, refl, subst}
-use Rattle.std.proofs.lemmas.Int.{ints}
-use Rattle.iv_words.specs.Kinds.{in_range, width, is_signed}
+use Rattle.iv_words.specs.Kinds.{width, is_signed}
 use Rattle.iv_words.specs.declared.IntKind.{IntKind}
 use Rattle.iv_words.proofs.Widths.{range_of_sign}
 use Rattle.index_types.specs.Indices.{wrapped}
@@ -21,7 +20,7 @@ use Rattle.overflow_checks.proofs.Alike.{left_kept}
 use Rattle.overflow_checks.proofs.Numbers.{quotient_held}
 use Rattle.overflow_checks.proofs.SignedNumbers.{from_zero}
 use Rattle.lower_values.specs.Conversions.{remainder}
-use Rattle.value_refinement.specs.FormLaws.{Operand, WrapsAnswer}
+use Rattle.value_refinement.specs.FormLaws.{WrapsAnswer}
 use Rattle.value_refinement.specs.Standing.{IsNumber}
 use Rattle.value_refinement.proofs.OperandValues.{operand_given, IsHeld}
 use Rattle.value_refinement.proofs.Naturals.{plain_held, are_natural, natural_gives}
@@ -41,10 +40,11 @@ module _ (p : Program) (u : CState) (table : CTable (table_of p.target)) (kind :
       let l : IsHeld p u e (pos a) = record { kind = of_kind kind; gives = given.gives; has = given.is_in } in
       let r = plain_held p u table n (omega arith) in
       let d = common_type t (of_kind kind) r.kind in
-      let left = left_kept t table (of_kind kind) r.kind (pos a) (pos n) (are_natural p u table e (Number n Plain) a n l r) in
-      (Computed d,
-          natural_gives p u table e (Number n Plain) a n l r Rem c.remainder (λ v w. refl) (a % n)
-          (remainder_is (arith_bits t d) (arith_signed d) (pos a) n some (quotient_held (arith_bits t d) (arith_signed d) (pos a) (pos n) (from_zero a) (from_zero n) left)))
+      let left = left_kept t table (of_kind kind) r.kind (pos a) (pos n) (are_natural p u table e (Number n Plain) a n l r) in (
+        Computed d,
+        natural_gives p u table e (Number n Plain) a n l r Rem c.remainder (λ v w. refl) (a % n)
+            (remainder_is (arith_bits t d) (arith_signed d) (pos a) n some (quotient_held (arith_bits t d) (arith_signed d) (pos a) (pos n) (from_zero a) (from_zero n) left)),
+      )
 
   by_sign : (signed : Bool) → is_signed kind ≡ signed → (x : ℤ) → IsGiven p u kind e x → IsNumber p u (remainder signed e (Number n Plain)) (pos (wrapped n x))
   by_sign true is x given = subst (IsNumber p u (remainder true e (Number n Plain))) (rest_wraps x n some) (signed_remainder p u table kind is e x given n some (omega arith))

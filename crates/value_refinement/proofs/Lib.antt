@@ -1,3 +1,12 @@
 pub mod Keeping
 pub mod Standings
 pub mod Running
+pub mod OperandValues
+pub mod Naturals
+pub mod Remainders
+pub mod SignedChoices
+pub mod WrappedIndices
+pub mod FieldMasks
+pub mod FieldValues
+pub mod FieldGuards
+pub mod FieldSets

@@ -1,5 +1,5 @@
 -- What the guards and the values of each form on numbers come to, where its operands stand exactly for theirs, in any state of C.
-use Rattle.std.specs.Prelude.{◌≡◌, ℕ, ℤ, pos, Bool, true, false, not, List, map, if◌then◌else◌, slice_get, Some, Ok, Err, IsTrue}
+use Rattle.std.specs.Prelude.{◌≡◌, ℕ, ℤ, pos, Bool, false, not, List, map, if◌then◌else◌, slice_get, Some, Ok, Err, IsTrue}
 use Rattle.std.specs.Ordering.{int_eq}
 use Rattle.iv_words.specs.Kinds.{in_range}
 use Rattle.iv_words.specs.declared.IntKind.{IntKind}
@@ -7,7 +7,7 @@ use Rattle.iv_words.specs.declared.IntKind.TheVariants.{U16}
 use Rattle.int_ops.specs.Operators.{truth}
 use Rattle.int_ops.specs.declared.Op.{Op}
 use Rattle.index_types.specs.Indices.{is_index, wrapped}
-use Rattle.bit_data.specs.Fields.{field_at, field_of, changed}
+use Rattle.bit_data.specs.Fields.{field_of, changed}
 use Rattle.bit_data.specs.Layouts.{IsLayout}
 use Rattle.bit_data.specs.declared.BitLayout.{BitLayout}
 use Rattle.bit_data.specs.declared.FieldBits.{FieldBits}

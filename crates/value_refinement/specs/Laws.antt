@@ -24,6 +24,7 @@ use Rattle.area_objects.specs.Both.{Map}
 use Rattle.region_soundness.specs.Fitting.{Entry, ValueFits}
 use Rattle.lower_values.specs.Expressions.{raw, place}
 use Rattle.lower_values.specs.Pieces.{Piece, PlacePiece, is_exact}
+use Rattle.value_refinement.specs.Kept.{Kept}
 use Rattle.value_refinement.specs.Related.{Related}
 use Rattle.value_refinement.specs.Settings.{Setting, Set}
 use Rattle.value_refinement.specs.Values.{Comes, Arrives}
@@ -85,3 +86,7 @@ abbrev pub ExpressionsFollow : Type 1
 ExpressionsFollow =
     (g : Setting) → Set g → (objects : Map) (s : State) → Stage g s → (e : ExprCore) → ExprTyped g.env g.scope e → Numbered (expr_checks e)
     → RawFollows g objects s e × (IsTrue (is_reference (type_of e)) → PlaceFollows g objects s e)
+
+-- temporaries and their objects leave a state related
+abbrev pub StatesStayRelated : Type 0
+StatesStayRelated = (g : Setting) → Set g → (objects : Map) (s : State) (k : ℕ) → g.first ≤ k → (u w : CState) → Kept g.program k u w → Related g objects s u → Related g objects s w

@@ -1,8 +1,14 @@
-//! Laws of the C of expressions.
+ghost use Rattle.value_refinement.specs.FormLaws.{WrapsAnswer, FieldsAnswer, SetsAnswer};
+ghost use Rattle.value_refinement.specs.Laws.{StatesStayRelated};
 
-ghost use Rattle.std.specs.Prelude.{◌≡◌};
-ghost use Rattle.value_refinement.specs.FormLaws.{NegationsAnswer};
+/// What `wrapix`, a field of bit data and `set` come to, and when the guard of `set` holds.
+pub fn fields_and_indices_answer()
+    ensures wraps { WrapsAnswer }
+    ensures fields { FieldsAnswer }
+    ensures sets { SetsAnswer }
+{}
 
-pub fn scratch()
-    ensures { NegationsAnswer }
+/// A state of C stays related to one of the source while old names and objects are kept.
+pub fn states_stay_related()
+    ensures { StatesStayRelated }
 {}

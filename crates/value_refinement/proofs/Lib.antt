@@ -1,6 +1,8 @@
 pub mod Keeping
 pub mod Standings
 pub mod Running
+pub mod Types
+pub mod Operands
 pub mod OperandValues
 pub mod Naturals
 pub mod Remainders

@@ -1,0 +1,4 @@
+pub mod Values
+pub mod Expressions
+pub mod Arguments
+pub mod Inits

@@ -1,5 +1,5 @@
 -- What a well typed expression is given fits its type, form by form.
-use Rattle.std.proofs.Common.{◌≡◌, ⊎_elim, ℕ, ℤ, Bool, true, false, not, List, [], ◌∷◌, ◌++◌, Option, Some, None, Ok, IsTrue, refl, sym, ◌∙◌, ap, subst}
+use Rattle.std.proofs.Common.{◌≡◌, ⊎_elim, ℕ, ℤ, Bool, true, false, not, List, [], ◌∷◌, ◌++◌, Option, Some, Ok, IsTrue, refl, sym, ◌∙◌, ap, subst}
 use Rattle.std.specs.Prelude.{pos, unsigned_abs}
 use Rattle.std.specs.Option.{option_map, option_and_then}
 use Rattle.std.proofs.lemmas.Option.{slice_get_within}
@@ -8,7 +8,6 @@ use Rattle.ivory_tree.specs.declared.BinOp.{BinOp}
 use Rattle.ivory_tree.specs.declared.BinOp.TheVariants.{OrElse, AndAlso, Or, Xor, And, Eq, Ne, Lt, Le, Gt, Ge, Shl, Shr, Add, Sub, WrapAdd, WrapSub, Mul, Div, Rem, WrapMul}
 use Rattle.ivory_tree.specs.declared.PrefixOp.{PrefixOp}
 use Rattle.ivory_tree.specs.declared.PrefixOp.TheVariants.{Neg, Not, Flip, Deref}
-use Rattle.type_trees.specs.Trees.{Leaf}
 use Rattle.area_types.specs.Syntax as types
 use Rattle.area_types.specs.Syntax.{ValueType, Truth}
 use Rattle.area_types.specs.declared.region.Region.TheVariants.{Global}
@@ -21,10 +20,10 @@ use Rattle.core_tree.specs.Environments.{Env}
 use Rattle.core_tree.specs.TypedExpressions.{ExprTyped, AreaNameTyped, DerefTyped, BinaryTyped, PrefixedTyped, StructFieldTyped, BitFieldTyped, ElementTyped}
 use Rattle.core_tree.specs.Valid.{ValidCore}
 use Rattle.core_meaning.specs.Values.{Value, Num, Ref}
-use Rattle.core_meaning.specs.Areas.{Held, number_at, number_in}
+use Rattle.core_meaning.specs.Areas.{number_at, number_in}
 use Rattle.core_meaning.specs.State.{State, value_of}
 use Rattle.core_meaning.specs.Checks.{Answer}
-use Rattle.core_meaning.specs.Answers.{operator_of, operation, prefix_operation, cast_to, index_to, wrapped_to, layout_of, field_set}
+use Rattle.core_meaning.specs.Answers.{operator_of, operation, prefix_operation, cast_to, index_to, wrapped_to, field_set}
 use Rattle.core_meaning.specs.Gives.{Given, OfNumber, OfNumbers, is_true, Negated, CellGives, Chosen, Choice, FieldGives, ElementGives, PrefixGives, BinaryGives, field_value, Gives}
 use Rattle.region_soundness.specs.Fitting.{Entry, Refers, ValueFits}
 use Rattle.region_soundness.proofs.Answered.{AnswersOne, AnswersTwo}

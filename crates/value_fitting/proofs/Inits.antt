@@ -20,18 +20,15 @@ use Rattle.core_tree.specs.Types.{is_value}
 use Rattle.core_tree.specs.Environments.{Env, struct_field}
 use Rattle.core_tree.specs.TypedExpressions.{HasType}
 use Rattle.core_tree.specs.TypedInits.{InitTyped, InitsTyped, place}
-use Rattle.core_tree.specs.Valid.{ValidCore}
 use Rattle.core_meaning.specs.Values.{Num}
 use Rattle.core_meaning.specs.Areas.{Held, filled}
 use Rattle.core_meaning.specs.State.{State}
 use Rattle.core_meaning.specs.Gives.{Gives, CellIs, InitGives, InitsGive}
 use Rattle.core_meaning.specs.Initializers.{field_types, zeros}
-use Rattle.region_soundness.specs.Fitting.{Entry}
 use Rattle.region_soundness.specs.Scoped.{HeldFits}
 use Rattle.region_soundness.proofs.Inits.{RowFits}
 use Rattle.region_soundness.proofs.Structs.{TableFits, Made, core_area_made, element_made, field_is_made, made_struct, made_zeros_fit}
 use Rattle.region_soundness.proofs.Trees.{Holds}
-use Rattle.value_fitting.specs.Known.{Knows}
 use Rattle.value_fitting.specs.Laws.{GivenFirstValuesFit}
 use Rattle.value_fitting.proofs.Arguments.{value_fits}
 

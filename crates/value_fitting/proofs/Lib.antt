@@ -2,3 +2,4 @@ pub mod Values
 pub mod Expressions
 pub mod Arguments
 pub mod Inits
+pub mod States

@@ -1,9 +1,8 @@
 -- What values that fit are: references to parts of live areas, or numbers.
-use Rattle.std.proofs.Common.{◌≡◌, ℕ, Bool, true, false, List, Some, None, IsTrue, refl, ◌∙◌, ap, subst}
+use Rattle.std.proofs.Common.{Bool, true, false, refl, ◌∙◌, ap, subst}
 use Rattle.std.specs.Option.{option_and_then}
 use Rattle.int_ops.specs.Operators.{truth}
 use Rattle.type_trees.specs.Values.{at}
-use Rattle.area_types.specs.Syntax as types
 use Rattle.area_types.specs.Syntax.{Truth}
 use Rattle.area_types.specs.Tables.{written_out}
 use Rattle.core_tree.specs.Syntax.{ModuleCore}

@@ -9,25 +9,22 @@ use Rattle.core_tree.specs.TypedExpressions.{ExprTyped}
 use Rattle.core_tree.specs.TypedStatements.{ReturnTyped}
 use Rattle.core_tree.specs.Valid.{ValidCore}
 use Rattle.core_meaning.specs.Values.{Value}
-use Rattle.core_meaning.specs.Areas.{Areas}
 use Rattle.core_meaning.specs.State.{State}
 use Rattle.core_meaning.specs.Gives.{Gives, GivesAll}
 use Rattle.region_soundness.specs.Fitting.{Entry, ValueFits}
 use Rattle.region_soundness.proofs.Statements.{fits_wanted}
 use Rattle.value_fitting.specs.Given.{ReturnGives}
-use Rattle.value_fitting.specs.Known.{Knows, KnowsOutcome, ValuesFit, ResultFits}
+use Rattle.value_fitting.specs.Known.{Knows, ValuesFitAll, ResultFits}
 use Rattle.value_fitting.specs.Laws.{GivenArgumentsFit, ArgumentsFitParameters, GivenResultsFit}
 use Rattle.value_fitting.proofs.Expressions.{given_fits}
-
-pub no_outcome : (env : Env) (entry : Entry) (areas : Areas) → env.outcome ≡ None → KnowsOutcome env entry areas None
-no_outcome env entry areas none ty e = let no : ⊥ = cc in absurd no
+use Rattle.value_fitting.proofs.States.{no_result_is_known}
 
 module _ (env : Env) (valid : ValidCore env.core) (scope : List ℕ) (entry : Entry) (s : State) (known : Knows env scope entry s) (none : env.outcome ≡ None) where
   -- in a body
   pub value_fits : (e : ExprCore) → ExprTyped env scope e → (v : Value) → Gives env.core None s e v → ValueFits env.core entry s.areas (type_of e) v
-  value_fits e typed v g = given_fits env valid entry s scope known None (no_outcome env entry s.areas none) e typed v g
+  value_fits e typed v g = given_fits env valid entry s scope known None (no_result_is_known env entry s.areas none) e typed v g
 
-  all_fit : (es : List ExprCore) → All (ExprTyped env scope) es → (vs : List Value) → GivesAll env.core s es vs → ValuesFit env.core entry s.areas (map type_of es) vs
+  all_fit : (es : List ExprCore) → All (ExprTyped env scope) es → (vs : List Value) → GivesAll env.core s es vs → ValuesFitAll env.core entry s.areas (map type_of es) vs
   all_fit [] typed [] g = tt
   all_fit [] typed (v ∷ vs) g = absurd g
   all_fit (e ∷ es) typed [] g = absurd g

@@ -6,7 +6,7 @@ use Rattle.core_meaning.specs.Values.{Value}
 use Rattle.core_meaning.specs.Areas.{Areas}
 use Rattle.region_soundness.specs.Fitting.{Entry, ValueFits}
 use Rattle.value_fitting.specs.Known.{OutcomeFits, ResultFits}
-use Rattle.value_fitting.specs.Laws.{ScopedIsKnown, FewerAreKnown, ContractsKnow, ResultsAreKnown}
+use Rattle.value_fitting.specs.Laws.{ScopedIsKnown, FewerAreKnown, ContractsKnow, ResultsAreKnown, NoResultIsKnown}
 
 pub scoped_is_known : ScopedIsKnown
 scoped_is_known env scope entry waiting s h = record { areas = h.areas; globals = h.globals; names = h.frame.names }
@@ -25,3 +25,6 @@ outcome_fits core entry areas None result h ty e = let no : ⊥ = cc in absurd n
 
 pub results_are_known : ResultsAreKnown
 results_are_known env entry areas result fits ty e = outcome_fits env.core entry areas env.result result fits ty e
+
+pub no_result_is_known : NoResultIsKnown
+no_result_is_known env entry areas none ty e = let no : ⊥ = cc in absurd no

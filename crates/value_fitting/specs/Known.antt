@@ -31,11 +31,11 @@ KnowsOutcome env entry areas outcome = (ty : ValueType) → env.outcome ≡ Some
 -- ---- rows of values, and results
 
 -- one value for each type, which fits it
-abbrev pub ValuesFit : ModuleCore → Entry → Areas → List ValueType → List Value → Type 0
-ValuesFit core entry areas [] [] = Unit {0}
-ValuesFit core entry areas [] (v ∷ vs) = ⊥
-ValuesFit core entry areas (t ∷ ts) [] = ⊥
-ValuesFit core entry areas (t ∷ ts) (v ∷ vs) = ValueFits core entry areas t v × ValuesFit core entry areas ts vs
+abbrev pub ValuesFitAll : ModuleCore → Entry → Areas → List ValueType → List Value → Type 0
+ValuesFitAll core entry areas [] [] = Unit {0}
+ValuesFitAll core entry areas [] (v ∷ vs) = ⊥
+ValuesFitAll core entry areas (t ∷ ts) [] = ⊥
+ValuesFitAll core entry areas (t ∷ ts) (v ∷ vs) = ValueFits core entry areas t v × ValuesFitAll core entry areas ts vs
 
 -- a value exactly where a result is wanted, which fits it
 abbrev pub ResultFits : ModuleCore → Entry → Areas → Option ValueType → Option Value → Type 0

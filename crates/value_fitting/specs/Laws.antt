@@ -20,7 +20,7 @@ use Rattle.core_meaning.specs.State.{State}
 use Rattle.core_meaning.specs.Gives.{Gives, GivesAll, FirstGives}
 use Rattle.region_soundness.specs.Fitting.{Entry, Refers, ValueFits}
 use Rattle.region_soundness.specs.Scoped.{HeldFits, AreasFit, Activation, Scoped}
-use Rattle.value_fitting.specs.Known.{activation, Knows, KnowsOutcome, ValuesFit, ResultFits}
+use Rattle.value_fitting.specs.Known.{activation, Knows, KnowsOutcome, ValuesFitAll, ResultFits}
 use Rattle.value_fitting.specs.Given.{ReturnGives, NumberOf, ReferenceTo, PartFits}
 
 -- ---- what is given
@@ -34,13 +34,13 @@ GivenValuesFit =
 abbrev pub GivenArgumentsFit : Type 0
 GivenArgumentsFit =
     (env : Env) → ValidCore env.core → (scope : List ℕ) (entry : Entry) (s : State) → Knows env scope entry s → env.outcome ≡ None
-    → (es : List ExprCore) → All (ExprTyped env scope) es → (vs : List Value) → GivesAll env.core s es vs → ValuesFit env.core entry s.areas (map type_of es) vs
+    → (es : List ExprCore) → All (ExprTyped env scope) es → (vs : List Value) → GivesAll env.core s es vs → ValuesFitAll env.core entry s.areas (map type_of es) vs
 
 -- arguments that fit their types fit the parameters, with the caller's regions for the callee's
 abbrev pub ArgumentsFitParameters : Type 0
 ArgumentsFitParameters =
     (core : ModuleCore) (entry : Entry) (areas : Areas) (regions : ℕ → Region) (params given : List ValueType) → ArgumentsFit regions params given
-    → (vs : List Value) → ValuesFit core entry areas given vs → ValuesFit core entry areas (map (applied regions) params) vs
+    → (vs : List Value) → ValuesFitAll core entry areas given vs → ValuesFitAll core entry areas (map (applied regions) params) vs
 
 abbrev pub GivenFirstValuesFit : Type 0
 GivenFirstValuesFit =
@@ -83,3 +83,7 @@ ContractsKnow = (env : Env) (before : Bool) (scope : List ℕ) (entry : Entry) (
 -- a result that fits may be named in an `ensures`
 abbrev pub ResultsAreKnown : Type 0
 ResultsAreKnown = (env : Env) (entry : Entry) (areas : Areas) (result : Option Value) → ResultFits env.core entry areas env.result result → KnowsOutcome (contract_env env false) entry areas result
+
+-- in a body and in a `requires` there is none
+abbrev pub NoResultIsKnown : Type 0
+NoResultIsKnown = (env : Env) (entry : Entry) (areas : Areas) → env.outcome ≡ None → KnowsOutcome env entry areas None

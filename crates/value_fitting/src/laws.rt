@@ -1,4 +1,4 @@
-ghost use Rattle.value_fitting.specs.Laws.{GivenValuesFit, GivenArgumentsFit, ArgumentsFitParameters, GivenFirstValuesFit, GivenResultsFit, ReferencesRefer, ReferredPartsFit, PlainValuesAreNumbers, ScopedIsKnown, FewerAreKnown, ContractsKnow, ResultsAreKnown};
+ghost use Rattle.value_fitting.specs.Laws.{GivenValuesFit, GivenArgumentsFit, ArgumentsFitParameters, GivenFirstValuesFit, GivenResultsFit, ReferencesRefer, ReferredPartsFit, PlainValuesAreNumbers, ScopedIsKnown, FewerAreKnown, ContractsKnow, ResultsAreKnown, NoResultIsKnown};
 
 /// What a well typed expression is given fits its type.
 pub fn given_values_fit()
@@ -39,7 +39,8 @@ pub fn scoped_is_known()
     ensures contracts { ContractsKnow }
 {}
 
-/// The result of a call that returns is a known outcome in what its procedure ensures.
+/// The result of a call that returns is a known outcome in what its procedure ensures, and before that there is none.
 pub fn results_are_known()
-    ensures { ResultsAreKnown }
+    ensures results { ResultsAreKnown }
+    ensures none { NoResultIsKnown }
 {}

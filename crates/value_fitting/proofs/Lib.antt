@@ -1,0 +1,5 @@
+pub mod Values
+pub mod States
+pub mod Expressions
+pub mod Arguments
+pub mod Inits

@@ -1,5 +1,6 @@
 -- Operands: a piece that is named, or taken as it is, follows as the piece does, is owed nothing, and stands exactly.
-use Rattle.std.proofs.Common.{◌≡◌, ◌≢◌, ℕ, zero, suc, ◌+◌, ◌*◌, ◌<◌, ◌≤◌, ℤ, Bool, true, false, List, [], ◌∷◌, ◌++◌, Option, Some, None, Result, Ok, Err, refl, sym, ◌∙◌, ap, subst, arith, append_assoc}
+use Rattle.std.proofs.Common.{◌≡◌, ◌≢◌, ℕ, zero, suc, ◌+◌, ◌*◌, ◌<◌, ◌≤◌, ℤ, Bool, true, false, List, [], ◌∷◌, ◌++◌, Option, Some, None, Result, Ok, Err, refl, sym, ◌∙◌, ap, subst, arith}
+use Rattle.std.proofs.lemmas.List.{append_assoc, append-nil}
 use Rattle.std.specs.Prelude.{if◌then◌else◌, not, ◌&&◌, IsTrue}
 use Rattle.iv_words.proofs.Equality.{same_self}
 use Rattle.step_semantics.specs.Control.{Control}
@@ -22,7 +23,7 @@ use Rattle.c_ast.specs.declared.CScalar.{CScalar}
 use Rattle.c_ast.specs.declared.CType.{CType}
 use Rattle.c_ast.specs.declared.CType.TheVariants as ctype
 use Rattle.c_ast.specs.Conversions.{can_hold}
-use Rattle.c_ast.specs.Syntax.{Expr, Number, Read, Var, Stmt, Const}
+use Rattle.c_ast.specs.Syntax.{Expr, Number, Read, Address, Unary, Binary, Cast, Cond, Var, Stmt, Const}
 use Rattle.c_ast.specs.Targets.{table_of}
 use Rattle.c_meaning.specs.Expressions as c
 use Rattle.c_meaning.specs.Scopes.{value_in, name_value}
@@ -69,15 +70,71 @@ module _ (g : Setting) where
       scalar_on g [] [] (suc j) (declare (local_name j) v u) w kept (local_name j) (local_is_old j (suc j) (omega arith)) k n
       (record { gives = name_gives g.program (declare (local_name j) v u) (local_name j) (Scalar k) n has; type = name_type_is g.program (declare (local_name j) v u) (local_name j) v has })
 
--- ---- pieces that are owed nothing
+-- ---- steps
 
--- the type is that of a number
-abbrev pub OfNumbers : ValueType → Type 0
-OfNumbers (types.Ref constant region target) = ⊥
-OfNumbers types.Truth = Unit {0}
-OfNumbers (types.Int kind) = Unit {0}
-OfNumbers (types.Ix n) = Unit {0}
-OfNumbers (types.Bits k) = Unit {0}
+pub owes_one : (owed : Bool) → owing owed ≤ 1
+owes_one true = omega arith
+owes_one false = omega arith
+
+first_holds : (a b : Bool) → (a && b) ≡ true → a ≡ true
+first_holds true b e = refl
+first_holds false b e = e
+
+last_free : (a b owed : Bool) → (a && (b && not owed)) ≡ true → owed ≡ false
+last_free true true true e = sym e
+last_free true true false e = refl
+last_free true false owed e = let no : ⊥ = cc in absurd no
+last_free false b owed e = let no : ⊥ = cc in absurd no
+
+pub exactly_by : (st : Standing) → is_exact st ≡ true → st ≡ Exact
+exactly_by Exact e = refl
+exactly_by Same e = let no : ⊥ = cc in absurd no
+exactly_by Near e = let no : ⊥ = cc in absurd no
+
+atom_is_read : (e : Expr) → is_atom e ≡ true → is_read e ≡ true
+atom_is_read (Number n suffix) h = h
+atom_is_read (Read place) h = refl
+atom_is_read (Address place) h = h
+atom_is_read (Unary op e) h = h
+atom_is_read (Binary op a b) h = h
+atom_is_read (Cast to e) h = h
+atom_is_read (Cond c a b) h = h
+
+-- what is named can pay for its declaration
+payable_once : (st : Standing) (owed : Bool) (e : Expr) → (is_exact st && is_read e) ≡ false → Simple st owed e → 1 ≤ 16 * owing owed + (if owed then 0 else if is_exact st then 0 else 8)
+payable_once Exact true e h simple = omega arith
+payable_once Exact false e h simple = let q : is_read e ≡ true = atom_is_read e simple in let no : ⊥ = cc in absurd no
+payable_once Same true e h simple = omega arith
+payable_once Same false e h simple = omega arith
+payable_once Near true e h simple = omega arith
+payable_once Near false e h simple = omega arith
+
+payable_often : (st : Standing) (owed : Bool) (e : Expr) → (is_exact st && (is_atom e && not owed)) ≡ false → Simple st owed e → 1 ≤ 16 * owing owed + (if owed then 0 else if is_exact st then 0 else 8)
+payable_often Exact true e h simple = omega arith
+payable_often Exact false e h simple = let q : (is_atom e && true) ≡ true = ap (λ b. b && true) simple in let no : ⊥ = cc in absurd no
+payable_often Same true e h simple = omega arith
+payable_often Same false e h simple = omega arith
+payable_often Near true e h simple = omega arith
+payable_often Near false e h simple = omega arith
+
+module _ (g : Setting) where
+  pub exactly : (u : CState) (k : CScalar) (st : Standing) (e : Expr) (n : ℤ) → is_exact st ≡ true → Stands st g.program u k e n → ExactlyIs g.program u k e n
+  exactly u k Exact e n exact h = h
+  exactly u k Same e n exact h = let no : ⊥ = cc in absurd no
+  exactly u k Near e n exact h = let no : ⊥ = cc in absurd no
+
+  module _ {A : Type 0} (s : State) (post : A → State → Control (Option CValue) → CState → Type 0) (part : Part State A) (rest : List Stmt) (x y spared : ℕ) (u : CState) (w : World) where
+    -- a step that is owed is paid by a pad
+    pub padded : (owed : Bool) → ((i : ℕ) → Follows g.frame.skip post x y i (part i w s) (λ j. running g rest j w u)) → (m : ℕ) → Follows g.frame.skip post (x + spared) y m (ticks (owing owed) part m w s) (λ j. running g (paid owed ++ rest) j w u)
+    padded true h m =
+        pays_to g.frame.skip post 1 1 (x + spared) x y part w s (omega arith) (omega arith) (λ j. running g (pad ∷ rest) j w u) (λ j. running g rest j w u) (runs_first g 1 pad rest w u u (takes_pad g w u)) h m
+    padded false h m = eased g.frame.skip post x y (x + spared) y m (part m w s) (λ j. running g rest j w u) (omega arith) (omega arith) (h m)
+
+    pub unpadded : (owed : Bool) → owed ≡ false → ((i : ℕ) → Follows g.frame.skip post x y i (part i w s) (λ j. running g rest j w u)) → (m : ℕ) → Follows g.frame.skip post (x + spared) y m (ticks (owing owed) part m w s) (λ j. running g rest j w u)
+    unpadded true e h m = let no : ⊥ = cc in absurd no
+    unpadded false e h m = eased g.frame.skip post x y (x + spared) y m (part m w s) (λ j. running g rest j w u) (omega arith) (omega arith) (h m)
+
+-- ---- pieces that are owed nothing
 
 module _ (g : Setting) (set : Set g) (objects : Map) (s : State) where
   -- what is done with a piece, whose source part gives such values
@@ -98,14 +155,125 @@ module _ (g : Setting) (set : Set g) (objects : Map) (s : State) where
   pub as_raw : (e : ExprCore) → PieceFollows (eval g.frame.core g.outcome e) (Gives g.frame.core g.outcome s e) (type_of e) (raw g.frame e) → RawFollows g objects s e
   as_raw e h A post go rest x y from le t related goes n w = h A post go rest x y from le t related goes.by n w
 
-  module _ (part : Part State Value) (given : Value → Type 0) (ty : ValueType) (number : OfNumbers ty) (p : ℕ → Piece) (follows : PieceFollows part given ty p)
+  -- ---- as operands
+
+  -- the expression stands for the number exactly, and goes on to do so
+  pub record Stood (from : ℕ) (q : Piece) (ty : ValueType) (t : CState) (n : ℤ) (u : CState) : Type 0 where
+    pub grows : from ≤ q.next
+    pub kept : Kept g.program from t u
+    pub stands : (w : CState) → Kept g.program q.next u w → ExactlyIs g.program w (scalar_for g.frame.table ty) q.value n
+
+  -- what is done with a number that an operand stands for
+  abbrev pub OnNumber : {A : Type 0} → (post : A → State → Control (Option CValue) → CState → Type 0) → (go : Value → Part State A) → (rest : List Stmt) → (x y from : ℕ) → (q : Piece) → (given : Value → Type 0) → ValueType → CState → Type 0
+  OnNumber post go rest x y from q given ty t =
+      (n : ℤ) (u : CState) → given (source.Num n) → Stood from q ty t n u → (m : ℕ) (w : World) → Follows g.frame.skip post x y m (go (source.Num n) m w s) (λ j. running g rest j w u)
+
+  abbrev pub OperandFollows : Part State Value → (given : Value → Type 0) → ValueType → (ℕ → Piece) → Type 1
+  OperandFollows part given ty q =
+      (A : Type 0) (post : A → State → Control (Option CValue) → CState → Type 0) (go : Value → Part State A) (rest : List Stmt) (x y from : ℕ) → g.first ≤ from
+      → (t : CState) → Related g objects s t → OnNumber post go rest x y from (q from) given ty t
+      → (n : ℕ) (w : World) → Follows g.frame.skip post x y n (bind part go n w s) (λ j. running g ((q from).before ++ rest) j w t)
+
+  module _ (part : Part State Value) (given : Value → Type 0) (ty : ValueType) (number : (k : ℕ) (path : List ℕ) → given (source.Ref k path) → ⊥) (p : ℕ → Piece) (follows : PieceFollows part given ty p)
       (holds : (n : ℤ) → given (source.Num n) → IsTrue (can_hold (table_of g.program.target) (Scalar (scalar_for g.frame.table ty)) n)) where
-    -- by a declaration
-    pub named_follows : PieceFollows part given ty (λ from. named (type_for g.frame.table ty) (p from))
-    named_follows A post go rest x y from le t related onward n w = ?
+    abbrev kind : CScalar
+    kind = scalar_for g.frame.table ty
 
-    pub inline_follows : PieceFollows part given ty (λ from. inline (p from))
-    inline_follows A post go rest x y from le t related onward n w = ?
+    -- the statements behind the piece's own do their part
+    abbrev Extends : (q : Piece) → (extra : List Stmt) → (from : ℕ) → Type 1
+    Extends q extra from =
+        (A : Type 0) (post : A → State → Control (Option CValue) → CState → Type 0) (go : Value → Part State A) (rest : List Stmt) (x y : ℕ) (t : CState) → OnNumber post go rest x y from q given ty t
+        → (n : ℤ) (u : CState) → given (source.Num n) → Comes g objects s from (p from) ty t (source.Num n) u
+        → (m : ℕ) (w : World) → Follows g.frame.skip post (x + spare (p from)) y m (ticks (owing (p from).owed) (go (source.Num n)) m w s) (λ j. running g (extra ++ rest) j w u)
 
-    pub taken_follows : (again : Bool) → PieceFollows part given ty (λ from. taken again (type_for g.frame.table ty) (p from))
-    taken_follows again A post go rest x y from le t related onward n w = ?
+    only_numbers : {A : Type 0} (post : A → State → Control (Option CValue) → CState → Type 0) (go : Value → Part State A) (rest : List Stmt) (x y from : ℕ) (t : CState)
+        → ((n : ℤ) (u : CState) → given (source.Num n) → Comes g objects s from (p from) ty t (source.Num n) u → (m : ℕ) (w : World) → Follows g.frame.skip post (x + spare (p from)) y m (ticks (owing (p from).owed) (go (source.Num n)) m w s) (λ j. running g rest j w u))
+        → Onward post go rest x y from (p from) given ty t
+    only_numbers post go rest x y from t h (source.Num n) u gives comes m w = h n u gives comes m w
+    only_numbers post go rest x y from t h (source.Ref k path) u gives comes m w = absurd (number k path gives)
+
+    extended : (q : ℕ → Piece) (extra : ℕ → List Stmt) → ((from : ℕ) → (q from).before ≡ (p from).before ++ extra from) → ((from : ℕ) → Extends (q from) (extra from) from) → OperandFollows part given ty q
+    extended q extra is extends A post go rest x y from le t related onward n w =
+        subst (λ l. Follows g.frame.skip post x y n (bind part go n w s) (λ j. running g l j w t)) (sym (ap (λ b. b ++ rest) (is from) ∙ append_assoc (p from).before (extra from) rest))
+        (follows A post go (extra from ++ rest) x y from le t related (only_numbers post go (extra from ++ rest) x y from t (extends from A post go rest x y t onward)) n w)
+
+    -- ---- the ways to take a piece
+
+    module _ (from : ℕ) where
+      abbrev at : Piece
+      at = p from
+
+      abbrev declared : Stmt
+      declared = Const (local_name at.next) (ctype.Value kind) at.value
+
+      -- by a declaration, where it can be paid
+      by_name : (Simple at.standing at.owed at.value → 1 ≤ 16 * owing at.owed + spare at) → Extends (named (ctype.Value kind) at) (declared ∷ []) from
+      by_name pays A post go rest x y t onward n u gives comes m w =
+          let v : CValue = Num (Scalar kind) n in
+          let stands : Simple at.standing at.owed at.value × Stands at.standing g.program u kind at.value n = comes.stands u (kept_same g.program at.next u) in
+          let a = stands_assigned g u kind at.standing at.value n (holds n gives) stands.1 in
+          let u2 : CState = declare (local_name at.next) v u in
+          let stood : Stood from (named (ctype.Value kind) at) ty t n u2 = record {
+            grows = omega (arith, comes.grows);
+            kept = kept_twice g.program from from t u u2 (omega arith) comes.kept (kept_declared g.program from at.next v u comes.grows);
+            stands = λ z kept. name_stands g at.next kind n u z kept;
+          } in
+          pays_to g.frame.skip post 1 (owing at.owed) (x + spare at) x y (go (source.Num n)) w s (owes_one at.owed) (omega (arith, pays stands.0)) (λ j. running g (declared ∷ rest) j w u) (λ j. running g rest j w u2)
+          (runs_first g 1 declared rest w u u2 (takes_const g w u (local_name at.next) (ctype.Value kind) at.value a.0 v a.1 a.2)) (λ i. onward n u2 gives stood i w) m
+
+      stood_as_is : (q : Piece) → q.value ≡ at.value → q.next ≡ at.next → is_exact at.standing ≡ true → (t : CState) (n : ℤ) (u : CState) → Comes g objects s from at ty t (source.Num n) u → Stood from q ty t n u
+      stood_as_is q value next exact t n u comes = record {
+        grows = subst (λ i. from ≤ i) (sym next) comes.grows;
+        kept = comes.kept;
+        stands = λ z kept.
+            subst (λ e. ExactlyIs g.program z kind e n) (sym value)
+            (exactly g z kind at.standing at.value n exact (comes.stands z (subst (λ i. Kept g.program i u z) next kept)).1);
+      }
+
+      -- as it is, by a pad for what it is owed
+      in_line : is_exact at.standing ≡ true → Extends (inline at) (paid at.owed) from
+      in_line exact A post go rest x y t onward n u gives comes m w =
+          padded g s post (go (source.Num n)) rest x y (spare at) u w at.owed (λ i. onward n u gives (stood_as_is (inline at) refl refl exact t n u comes) i w) m
+
+      -- as it is, where it is owed nothing
+      as_it_is : is_exact at.standing ≡ true → at.owed ≡ false → Extends at [] from
+      as_it_is exact free A post go rest x y t onward n u gives comes m w =
+          unpadded g s post (go (source.Num n)) rest x y (spare at) u w at.owed free (λ i. onward n u gives (stood_as_is at refl refl exact t n u comes) i w) m
+
+    -- ---- all ways
+
+    abbrev extra_once : Piece → List Stmt
+    extra_once q = if is_exact q.standing && is_read q.value then paid q.owed else Const (local_name q.next) (ctype.Value kind) q.value ∷ []
+
+    abbrev extra_often : Piece → List Stmt
+    extra_often q = if is_exact q.standing && stays q then [] else Const (local_name q.next) (ctype.Value kind) q.value ∷ []
+
+    once_extends : (from : ℕ) → Extends (once (ctype.Value kind) (p from)) (extra_once (p from)) from
+    once_extends from = go (is_exact (p from).standing && is_read (p from).value) refl where
+      go : (b : Bool) → (is_exact (p from).standing && is_read (p from).value) ≡ b
+          → Extends (if b then inline (p from) else named (ctype.Value kind) (p from)) (if b then paid (p from).owed else Const (local_name (p from).next) (ctype.Value kind) (p from).value ∷ []) from
+      go true e = in_line from (first_holds (is_exact (p from).standing) (is_read (p from).value) e)
+      go false e = by_name from (payable_once (p from).standing (p from).owed (p from).value e)
+
+    often_extends : (from : ℕ) → Extends (often (ctype.Value kind) (p from)) (extra_often (p from)) from
+    often_extends from = go (is_exact (p from).standing && stays (p from)) refl where
+      go : (b : Bool) → (is_exact (p from).standing && stays (p from)) ≡ b
+          → Extends (if b then p from else named (ctype.Value kind) (p from)) (if b then [] else Const (local_name (p from).next) (ctype.Value kind) (p from).value ∷ []) from
+      go true e = as_it_is from (first_holds (is_exact (p from).standing) (stays (p from)) e) (last_free (is_exact (p from).standing) (is_atom (p from).value) (p from).owed e)
+      go false e = by_name from (payable_often (p from).standing (p from).owed (p from).value e)
+
+    before_once : (q : Piece) → (once (ctype.Value kind) q).before ≡ q.before ++ extra_once q
+    before_once q = go (is_exact q.standing && is_read q.value) where
+      go : (b : Bool) → (if b then inline q else named (ctype.Value kind) q).before ≡ q.before ++ (if b then paid q.owed else Const (local_name q.next) (ctype.Value kind) q.value ∷ [])
+      go true = refl
+      go false = refl
+
+    before_often : (q : Piece) → (often (ctype.Value kind) q).before ≡ q.before ++ extra_often q
+    before_often q = go (is_exact q.standing && stays q) where
+      go : (b : Bool) → (if b then q else named (ctype.Value kind) q).before ≡ q.before ++ (if b then [] else Const (local_name q.next) (ctype.Value kind) q.value ∷ [])
+      go true = sym (append-nil q.before)
+      go false = refl
+
+    pub taken_follows : (again : Bool) → OperandFollows part given ty (λ from. taken again (ctype.Value kind) (p from))
+    taken_follows true = extended (λ from. often (ctype.Value kind) (p from)) (λ from. extra_often (p from)) (λ from. before_often (p from)) often_extends
+    taken_follows false = extended (λ from. once (ctype.Value kind) (p from)) (λ from. extra_once (p from)) (λ from. before_once (p from)) once_extends

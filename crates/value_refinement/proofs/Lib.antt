@@ -3,6 +3,7 @@ pub mod Standings
 pub mod Running
 pub mod Types
 pub mod Operands
+pub mod NumberForms
 pub mod OperandValues
 pub mod Naturals
 pub mod Remainders

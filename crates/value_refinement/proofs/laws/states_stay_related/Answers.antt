@@ -2,6 +2,7 @@ use Rattle.value_refinement.proofs.Standings.{related_on}
 use Rattle.value_refinement.proofs.Running
 use Rattle.value_refinement.proofs.Types
 use Rattle.value_refinement.proofs.Operands
+use Rattle.value_refinement.proofs.NumberForms
 use Rattle.value_refinement.proofs.laws.states_stay_related.Goals as goal
 
 pub returns : goal.returns

@@ -8,6 +8,7 @@ use Rattle.iv_words.specs.declared.IntKind.TheVariants.{U8, U16, U32, U64, I8, I
 use Rattle.index_types.specs.Indices.{is_index}
 use Rattle.area_types.specs.Syntax.{Truth, Int, Ix, Bits, Ref}
 use Rattle.area_types.specs.Tables.{is_length}
+use Rattle.area_types.proofs.Truths.{both}
 use Rattle.core_tree.specs.Operators.{cast_sites, indexing_sites}
 use Rattle.core_tree.specs.Types.{has_values_of, has_indices_of}
 use Rattle.core_tree.specs.declared.Check.{Check}
@@ -100,11 +101,6 @@ last_index_is_end signed (suc n) h = let is : pos (suc n) -ℤ pos 1 ≡ pos n =
 
 -- ---- the numbers of a type
 
-both : (a b : Bool) → IsTrue (a && b) → IsTrue a × IsTrue b
-both true true h = (refl, refl)
-both true false h = cc
-both false b h = cc
-
 kind_between : (kind : IntKind) (x : ℤ) → IsTrue (in_range kind x) → IsBetween (least kind) (greatest kind) x
 kind_between kind x h = let b = both (int_le (least kind) x) (int_le x (greatest kind)) h in record { from_low = b.0; to_high = b.1 }
 
@@ -171,15 +167,17 @@ module _ (f : Frame) (p : Program) (u : CState) (e : Expr) (x : ℤ) (o : Operan
 
 pub casts_answer : CastsAnswer
 casts_answer f p same u (Int from) kind to e x cs form is o value kinds =
-    let q : kind ≡ from = cc in
-    (subst (λ k. AreFor cs (cast_sites to (Int k)) → GuardsTell p u (λ which. range_guard f (Int k) (Int to) (valued (Some kind) e)) never (answer site.Cast (in_range to x) x) cs) q
-    (of_kind_guarded f p u kind e x o to cs) kinds,
-    has_number p u kind e x o)
+    let q : kind ≡ from = cc in (
+      subst (λ k. AreFor cs (cast_sites to (Int k)) → GuardsTell p u (λ which. range_guard f (Int k) (Int to) (valued (Some kind) e)) never (answer site.Cast (in_range to x) x) cs) q
+          (of_kind_guarded f p u kind e x o to cs) kinds,
+      has_number p u kind e x o,
+    )
 casts_answer f p same u (Ix n) kind to e x cs form is o value kinds =
-    let q : U16 ≡ kind = cc in
-    (subst (λ k. Operand p u k e x → GuardsTell p u (λ which. range_guard f (Ix n) (Int to) (valued (Some k) e)) never (answer site.Cast (in_range to x) x) cs) q
-    (λ h. of_index_guarded f p u e x h n value to cs kinds) o,
-    has_number p u kind e x o)
+    let q : U16 ≡ kind = cc in (
+      subst (λ k. Operand p u k e x → GuardsTell p u (λ which. range_guard f (Ix n) (Int to) (valued (Some k) e)) never (answer site.Cast (in_range to x) x) cs) q
+          (λ h. of_index_guarded f p u e x h n value to cs kinds) o,
+      has_number p u kind e x o,
+    )
 casts_answer f p same u Truth kind to e x cs form is o value kinds = let no : ⊥ = cc in absurd no
 casts_answer f p same u (Bits k) kind to e x cs form is o value kinds = let no : ⊥ = cc in absurd no
 casts_answer f p same u (Ref constant region target) kind to e x cs form is o value kinds = let no : ⊥ = cc in absurd no

@@ -1,7 +1,7 @@
 -- An operand that stands exactly for a number of a kind is one of the kind's guards and computations, and with a constant cast it has the
 -- kind's type.
 use Rattle.std.proofs.Common.{ℤ, IsTrue, Some, sym, subst}
-use Rattle.iv_words.specs.Kinds.{in_range, width, is_signed}
+use Rattle.iv_words.specs.Kinds.{in_range}
 use Rattle.iv_words.specs.declared.IntKind.{IntKind}
 use Rattle.c_ast.specs.declared.CScalar.TheVariants as scalar
 use Rattle.c_ast.specs.declared.CKind.TheVariants.{Scalar}

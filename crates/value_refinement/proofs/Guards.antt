@@ -1,6 +1,6 @@
 -- Guards of checks in a row tell what those of the kinds of checks do, one by one.
 use Rattle.std.proofs.Common.{◌≡◌, Bool, true, false, IsTrue, refl, sym, subst}
-use Rattle.std.specs.Prelude.{List, [], ◌∷◌, if◌then◌else◌, not, Ok, Err}
+use Rattle.std.specs.Prelude.{List, [], ◌∷◌, Ok}
 use Rattle.core_tree.specs.declared.Check.{Check}
 use Rattle.core_tree.specs.declared.SiteKind.{SiteKind}
 use Rattle.core_tree.specs.Operators.{unless}

@@ -1,15 +1,14 @@
 -- The guards and the computation of an operator, on operands that stand exactly for their numbers, do what overflow_checks promises of them.
-use Rattle.std.proofs.Common.{◌≡◌, ℕ, zero, suc, ◌<◌, ℤ, pos, negsuc, Bool, true, false, not, IsTrue, Result, Ok, Err, arith, refl, sym, subst, ap, ◌∙◌}
-use Rattle.std.specs.Prelude.{◌≢◌, ◌-ℤ◌, ◌*ℤ◌, if◌then◌else◌, int_div, int_lt, nat_eq, nat_lt, [], ◌∷◌, All, map, Some}
+use Rattle.std.proofs.Common.{◌≡◌, ℕ, zero, suc, ℤ, pos, Bool, true, false, not, IsTrue, Result, Ok, Err, arith, refl, sym, subst, ap, ◌∙◌}
+use Rattle.std.specs.Prelude.{◌≢◌, ◌-ℤ◌, ◌*ℤ◌, if◌then◌else◌, int_div, int_lt, nat_eq, List, [], ◌∷◌, All, map, Some}
 use Rattle.std.specs.Ordering.{int_eq}
 use Rattle.std.specs.Bool.{Decides}
 use Rattle.std.proofs.lemmas.Bool.Decides.{Decides-int_eq, Decides-not, Decides-like, same_from_decides}
-use Rattle.std.proofs.lemmas.Int.{ints}
 use Rattle.std.proofs.lemmas.List.Elements.{All-nil, All-cons}
 use Rattle.iv_words.specs.Kinds.{in_range_of, width, is_signed}
 use Rattle.iv_words.specs.declared.IntKind.{IntKind}
 use Rattle.iv_words.proofs.Widths.{range_of_sign}
-use Rattle.int_ops.specs.Operators.{is_allowed, is_allowed_at, is_binary, exact, exact_at}
+use Rattle.int_ops.specs.Operators.{is_allowed, exact}
 use Rattle.int_ops.specs.declared.Op.{Op}
 use Rattle.int_ops.specs.declared.Op.TheVariants as op
 use Rattle.int_ops.specs.declared.Stop.{Stop}
@@ -22,7 +21,6 @@ use Rattle.c_ast.specs.declared.CScalar.{CScalar}
 use Rattle.c_ast.specs.declared.CKind.TheVariants.{Scalar}
 use Rattle.c_ast.specs.Conversions.{convert}
 use Rattle.c_ast.specs.Syntax.{Expr, Number, Read, Address, Unary, Binary, Cast, Cond}
-use Rattle.c_ast.specs.Targets.{table_of}
 use Rattle.c_meaning.specs.Values.{Trouble, CValue, Num, Ptr, is_true, on_ok}
 use Rattle.c_meaning.specs.State.{Program, CState}
 use Rattle.c_meaning.specs.Expressions.{eval}
@@ -35,11 +33,10 @@ use Rattle.overflow_checks.proofs.SignedNumbers.{quotient_test}
 use Rattle.lower_values.specs.Frames.{Frame, int_bits_of}
 use Rattle.lower_values.specs.Operators.{guard_in, computed}
 use Rattle.lower_values.specs.Ranges.{settled, settled_by, is_division}
-use Rattle.value_refinement.specs.Answering.{GuardTells}
 use Rattle.value_refinement.specs.FormLaws.{Operand, OperatorsAnswer}
 use Rattle.value_refinement.specs.Standing.{Converts, TestIs}
 use Rattle.value_refinement.proofs.ExactOperands.{is_operand, stands_for}
-use Rattle.value_refinement.proofs.Guards.{EachTells, guards_tell, tells}
+use Rattle.value_refinement.proofs.Guards.{Tells, EachTells, guards_tell, tells}
 
 -- ---- what a value says that is 0 exactly where the operator stops
 
@@ -56,17 +53,17 @@ held_decides Shift (Err Overflow) = (λ held e. cc, λ other. refl)
 held_decides Shift (Err DivZero) = (λ held e. cc, λ other. refl)
 
 module _ (o : Op) (kind : IntKind) (x y : ℤ) where
-  abbrev Held : Stop → Bool
-  Held which = holds (in_kind o kind x y) (site_of which)
+  abbrev check_holds : Stop → Bool
+  check_holds which = holds (in_kind o kind x y) (site_of which)
 
-  true_where_held : (which : Stop) (r : Result CValue Trouble) → IsTestOf o kind which x y r → on_ok r is_true ≡ Ok (Held which)
-  true_where_held which (Ok (Num of_kind v)) zero_where =
+  true_where_it_holds : (which : Stop) (r : Result CValue Trouble) → IsTestOf o kind which x y r → on_ok r is_true ≡ Ok (check_holds which)
+  true_where_it_holds which (Ok (Num of_kind v)) zero_where =
       let is_not = not (int_eq v (pos 0)) in
       let d : Decides is_not (exact o kind x y ≢ Err which) =
       Decides-like is_not (λ some e. some (zero_where.1 e)) (λ other z. other (zero_where.0 z)) (Decides-not (int_eq v (pos 0)) (Decides-int_eq v (pos 0))) in
-      ap Ok (same_from_decides is_not (Held which) d (held_decides which (exact o kind x y)))
-  true_where_held which (Ok (Ptr constant base to)) no_value = absurd no_value
-  true_where_held which (Err trouble) no_value = absurd no_value
+      ap Ok (same_from_decides is_not (check_holds which) d (held_decides which (exact o kind x y)))
+  true_where_it_holds which (Ok (Ptr constant base to)) no_value = absurd no_value
+  true_where_it_holds which (Err trouble) no_value = absurd no_value
 
 -- ---- what a constant right operand settles
 
@@ -90,9 +87,6 @@ shift_is_small false v h = cc
 other_than_zero : (n : ℕ) → not (nat_eq n 0) ≡ true → int_eq (pos n) (pos 0) ≡ false
 other_than_zero zero e = cc
 other_than_zero (suc n) e = let d = Decides-int_eq (pos (suc n)) (pos 0) in grind arith
-
-below_width : (n w : ℕ) → nat_lt n w ≡ true → int_lt (pos n) (pos w) ≡ true
-below_width n w e = e
 
 -- the constant right operand that settles a check
 pub record SettledBy (kind : IntKind) (o : Op) (which : SiteKind) (y : ℤ) : Type 0 where
@@ -121,37 +115,41 @@ module _ (f : Frame) (p : Program) (same : f.target ≡ p.target) (u : CState) (
 
   -- ---- guards
 
+  -- none of these checks fails
+  abbrev Passed : Op → List Stop → Type 0
+  Passed o stops = All (λ earlier. exact o kind x y ≢ Err earlier) stops
+
   module _ (o : Op) (allowed : IsTrue (is_allowed o kind)) (signed : Bool) (sign : is_signed kind ≡ signed) where
-    test_is : (which : Stop) → IsTrue (is_among (checks_at o signed) which) → All (λ earlier. exact o kind x y ≢ Err earlier) (up_to (checks_at o signed) which)
-        → TestIs p u (guard_for (int_bits_of f) (width kind) (is_signed kind) o which a b) (Held o kind x y which)
+    test_is : (which : Stop) → IsTrue (is_among (checks_at o signed) which) → Passed o (up_to (checks_at o signed) which)
+        → TestIs p u (guard_for (int_bits_of f) (width kind) (is_signed kind) o which a b) (check_holds o kind x y which)
     test_is which check before =
-        true_where_held o kind x y which _
+        true_where_it_holds o kind x y which _
         (guards_are_right f.target o kind which a b allowed (subst (λ s. IsTrue (is_among (checks_at o s) which)) (sym sign) check) (is_operand_there a x l) (λ two. is_operand_there b y r)
-        p u x y (sym same) (stand_for o) (subst (λ s. All (λ earlier. exact o kind x y ≢ Err earlier) (up_to (checks_at o s) which)) (sym sign) before))
+        p u x y (sym same) (stand_for o) (subst (λ s. Passed o (up_to (checks_at o s) which)) (sym sign) before))
 
-    abbrev First : Stop → Type 0
-    First which = GuardTells (settled kind o b (site_of which)) p u (guard_in f kind o a b (site_of which)) (Held o kind x y which)
+    abbrev TellsOf : Stop → Type 0
+    TellsOf which = Tells p u (guard_in f kind o a b) (settled kind o b) (in_kind o kind x y) (site_of which)
 
-    none_before : All (λ earlier. exact o kind x y ≢ Err earlier) []
+    none_before : Passed o []
     none_before = All-nil (λ earlier. exact o kind x y ≢ Err earlier)
 
-    overflow_tells : IsTrue (is_among (checks_at o signed) Overflow) → is_division o ≡ false → All (λ earlier. exact o kind x y ≢ Err earlier) (up_to (checks_at o signed) Overflow) → First Overflow
+    overflow_tells : IsTrue (is_among (checks_at o signed) Overflow) → is_division o ≡ false → Passed o (up_to (checks_at o signed) Overflow) → TellsOf Overflow
     overflow_tells check other before =
-        tells (settled kind o b site.Overflow) p u (guard_in f kind o a b site.Overflow) (Held o kind x y Overflow)
+        tells (settled kind o b site.Overflow) p u (guard_in f kind o a b site.Overflow) (check_holds o kind x y Overflow)
         (λ s. let q = settled_number p u kind b y r o site.Overflow s in let no : false ≡ true = sym other ∙ q.settles in cc)
         (test_is Overflow check before)
 
-    shift_tells : (v : ℤ) → IsTrue (is_among (checks_at o signed) Shift) → exact o kind x y ≡ (if int_lt y (pos w) then Ok v else Err Shift) → All (λ earlier. exact o kind x y ≢ Err earlier) (up_to (checks_at o signed) Shift) → First Shift
+    shift_tells : (v : ℤ) → IsTrue (is_among (checks_at o signed) Shift) → exact o kind x y ≡ (if int_lt y (pos w) then Ok v else Err Shift) → Passed o (up_to (checks_at o signed) Shift) → TellsOf Shift
     shift_tells v check is before =
-        tells (settled kind o b site.Shift) p u (guard_in f kind o a b site.Shift) (Held o kind x y Shift)
+        tells (settled kind o b site.Shift) p u (guard_in f kind o a b site.Shift) (check_holds o kind x y Shift)
         (λ s. let q = settled_number p u kind b y r o site.Shift s in
-        subst (λ answer. IsTrue (holds (stopping answer) site.Shift)) (sym is) (shift_is_small (int_lt y (pos w)) v (subst (λ z. int_lt z (pos w) ≡ true) q.is_value (below_width q.number w q.settles))))
+        subst (λ answer. IsTrue (holds (stopping answer) site.Shift)) (sym is) (shift_is_small (int_lt y (pos w)) v (subst (λ z. int_lt z (pos w) ≡ true) q.is_value q.settles)))
         (test_is Shift check before)
 
     module _ (v : ℤ) (is : exact o kind x y ≡ divided (int_eq y (pos 0)) (in_range_of w (is_signed kind) (int_div x y)) v) where
-      divisor_tells : IsTrue (is_among (checks_at o signed) DivZero) → All (λ earlier. exact o kind x y ≢ Err earlier) (up_to (checks_at o signed) DivZero) → First DivZero
+      divisor_tells : IsTrue (is_among (checks_at o signed) DivZero) → Passed o (up_to (checks_at o signed) DivZero) → TellsOf DivZero
       divisor_tells check before =
-          tells (settled kind o b site.DivZero) p u (guard_in f kind o a b site.DivZero) (Held o kind x y DivZero)
+          tells (settled kind o b site.DivZero) p u (guard_in f kind o a b site.DivZero) (check_holds o kind x y DivZero)
           (λ s. let q = settled_number p u kind b y r o site.DivZero s in
           subst (λ answer. IsTrue (holds (stopping answer) site.DivZero)) (sym is)
           (not_by_zero (int_eq y (pos 0)) (in_range_of w (is_signed kind) (int_div x y)) v (subst (λ z. int_eq z (pos 0) ≡ false) q.is_value (other_than_zero q.number q.settles))))
@@ -163,47 +161,47 @@ module _ (f : Frame) (p : Program) (same : f.target ≡ p.target) (u : CState) (
           let e = sign ∙ s in
           subst (λ b. IsTrue (in_range_of w b (int_div x (pos n)))) (sym e) (sym (quotient_test w x (pos n) other (range_of_sign kind true e x l.is_in)))
 
-      quotient_tells : signed ≡ true → IsTrue (is_among (checks_at o signed) Overflow) → All (λ earlier. exact o kind x y ≢ Err earlier) (up_to (checks_at o signed) Overflow) → First Overflow
+      quotient_tells : signed ≡ true → IsTrue (is_among (checks_at o signed) Overflow) → Passed o (up_to (checks_at o signed) Overflow) → TellsOf Overflow
       quotient_tells s check before =
-          tells (settled kind o b site.Overflow) p u (guard_in f kind o a b site.Overflow) (Held o kind x y Overflow)
+          tells (settled kind o b site.Overflow) p u (guard_in f kind o a b site.Overflow) (check_holds o kind x y Overflow)
           (λ z. let q = settled_number p u kind b y r o site.Overflow z in
           subst (λ answer. IsTrue (holds (stopping answer) site.Overflow)) (sym is)
           (quotient_fits (int_eq y (pos 0)) (in_range_of w (is_signed kind) (int_div x y)) v
           (subst (λ m. int_eq m (pos 0) ≡ false → IsTrue (in_range_of w (is_signed kind) (int_div x m))) q.is_value (natural_quotient s q.number))))
           (test_is Overflow check before)
 
-      divisor_before : IsTrue (Held o kind x y DivZero) → All (λ earlier. exact o kind x y ≢ Err earlier) (DivZero ∷ [])
+      divisor_before : IsTrue (check_holds o kind x y DivZero) → Passed o (DivZero ∷ [])
       divisor_before h = All-cons (λ earlier. exact o kind x y ≢ Err earlier) DivZero [] ((held_decides DivZero (exact o kind x y)).0 h) none_before
 
-  each_tells : (o : Op) → IsTrue (is_allowed o kind) → (signed : Bool) → is_signed kind ≡ signed → IsTrue (is_allowed_at o signed)
+  each_tells : (o : Op) → IsTrue (is_allowed o kind) → (signed : Bool) → is_signed kind ≡ signed
       → EachTells p u (guard_in f kind o a b) (settled kind o b) (in_kind o kind x y) (map site_of (checks_at o signed))
-  each_tells op.Add h signed e k = (overflow_tells op.Add h signed e refl refl (none_before op.Add h signed e), λ held. tt)
-  each_tells op.Sub h signed e k = (overflow_tells op.Sub h signed e refl refl (none_before op.Sub h signed e), λ held. tt)
-  each_tells op.Mul h signed e k = (overflow_tells op.Mul h signed e refl refl (none_before op.Mul h signed e), λ held. tt)
-  each_tells op.Neg h signed e k = (overflow_tells op.Neg h signed e refl refl (none_before op.Neg h signed e), λ held. tt)
-  each_tells op.Shl h signed e k = (shift_tells op.Shl h signed e _ refl refl (none_before op.Shl h signed e), λ held. tt)
-  each_tells op.Shr h signed e k = (shift_tells op.Shr h signed e _ refl refl (none_before op.Shr h signed e), λ held. tt)
-  each_tells op.Div h false e k = (divisor_tells op.Div h false e (int_div x y) refl refl (none_before op.Div h false e), λ held. tt)
-  each_tells op.Rem h false e k = (divisor_tells op.Rem h false e (x -ℤ int_div x y *ℤ y) refl refl (none_before op.Rem h false e), λ held. tt)
-  each_tells op.Div h true e k =
+  each_tells op.Add h signed e = (overflow_tells op.Add h signed e refl refl (none_before op.Add h signed e), λ held. tt)
+  each_tells op.Sub h signed e = (overflow_tells op.Sub h signed e refl refl (none_before op.Sub h signed e), λ held. tt)
+  each_tells op.Mul h signed e = (overflow_tells op.Mul h signed e refl refl (none_before op.Mul h signed e), λ held. tt)
+  each_tells op.Neg h signed e = (overflow_tells op.Neg h signed e refl refl (none_before op.Neg h signed e), λ held. tt)
+  each_tells op.Shl h signed e = (shift_tells op.Shl h signed e _ refl refl (none_before op.Shl h signed e), λ held. tt)
+  each_tells op.Shr h signed e = (shift_tells op.Shr h signed e _ refl refl (none_before op.Shr h signed e), λ held. tt)
+  each_tells op.Div h false e = (divisor_tells op.Div h false e (int_div x y) refl refl (none_before op.Div h false e), λ held. tt)
+  each_tells op.Rem h false e = (divisor_tells op.Rem h false e (x -ℤ int_div x y *ℤ y) refl refl (none_before op.Rem h false e), λ held. tt)
+  each_tells op.Div h true e =
       let v = int_div x y in
       (divisor_tells op.Div h true e v refl refl (none_before op.Div h true e), λ held. (quotient_tells op.Div h true e v refl refl refl (divisor_before op.Div h true e v refl held), λ fits. tt))
-  each_tells op.Rem h true e k =
+  each_tells op.Rem h true e =
       let v = x -ℤ int_div x y *ℤ y in
       (divisor_tells op.Rem h true e v refl refl (none_before op.Rem h true e), λ held. (quotient_tells op.Rem h true e v refl refl refl (divisor_before op.Rem h true e v refl held), λ fits. tt))
-  each_tells op.And h signed e k = tt
-  each_tells op.Or h signed e k = tt
-  each_tells op.Xor h signed e k = tt
-  each_tells op.Not h signed e k = tt
-  each_tells op.WrapAdd h signed e k = tt
-  each_tells op.WrapSub h signed e k = tt
-  each_tells op.WrapMul h signed e k = tt
-  each_tells op.Eq h signed e k = tt
-  each_tells op.Ne h signed e k = tt
-  each_tells op.Lt h signed e k = tt
-  each_tells op.Le h signed e k = tt
-  each_tells op.Gt h signed e k = tt
-  each_tells op.Ge h signed e k = tt
+  each_tells op.And h signed e = tt
+  each_tells op.Or h signed e = tt
+  each_tells op.Xor h signed e = tt
+  each_tells op.Not h signed e = tt
+  each_tells op.WrapAdd h signed e = tt
+  each_tells op.WrapSub h signed e = tt
+  each_tells op.WrapMul h signed e = tt
+  each_tells op.Eq h signed e = tt
+  each_tells op.Ne h signed e = tt
+  each_tells op.Lt h signed e = tt
+  each_tells op.Le h signed e = tt
+  each_tells op.Gt h signed e = tt
+  each_tells op.Ge h signed e = tt
 
   -- ---- computations
 
@@ -222,7 +220,8 @@ module _ (f : Frame) (p : Program) (same : f.target ≡ p.target) (u : CState) (
       (computations_are_right f.target o kind a b h (is_operand_there a x l) (λ two. is_operand_there b y r) p u x y v (sym same) (stand_for o) (answered (exact o kind x y) v e))
 
 pub operators_answer : OperatorsAnswer
-operators_answer f p same u o kind a b x y cs allowed l r kinds =
-    (guards_tell p u (guard_in f kind o a b) (settled kind o b) (in_kind o kind x y) cs (map site_of (checks o kind)) kinds
-    (each_tells f p same u kind a b x y l r o allowed (is_signed kind) refl allowed),
-    λ v e. converts f p same u kind a b x y l r o allowed v e)
+operators_answer f p same u o kind a b x y cs allowed l r kinds = (
+  guards_tell p u (guard_in f kind o a b) (settled kind o b) (in_kind o kind x y) cs (map site_of (checks o kind)) kinds
+      (each_tells f p same u kind a b x y l r o allowed (is_signed kind) refl),
+  λ v e. converts f p same u kind a b x y l r o allowed v e,
+)

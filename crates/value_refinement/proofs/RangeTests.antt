@@ -1,10 +1,11 @@
 -- A test of the ends of a range: a number of a kind is compared with the number of an end in C as it is, and where an end is not tested the
 -- number is not beyond it anyway.
-use Rattle.std.proofs.Common.{◌≡◌, ℕ, zero, suc, ◌-◌, ◌^◌, ◌<◌, ◌≤◌, ℤ, pos, negsuc, neg_ℤ, Bool, true, false, IsTrue, Option, Some, Ok, arith, refl, sym, subst, ap, ◌∙◌}
+use Rattle.std.proofs.Common.{◌≡◌, ℕ, suc, ◌-◌, ◌^◌, ◌<◌, ℤ, pos, negsuc, neg_ℤ, Bool, true, false, IsTrue, Ok, arith, refl, sym, subst, ap, ◌∙◌}
 use Rattle.std.specs.Prelude.{if◌then◌else◌, ◌&&◌, int_le, int_lt, nat_lt}
 use Rattle.std.proofs.lemmas.Int.{ints}
 use Rattle.std.proofs.lemmas.Nat.{pow_pos}
-use Rattle.iv_words.specs.Kinds.{in_range_of, in_range, width, is_signed}
+use Rattle.std.proofs.Math.Bool.{and-true}
+use Rattle.iv_words.specs.Kinds.{in_range_of, width, is_signed}
 use Rattle.iv_words.specs.declared.IntKind.{IntKind}
 use Rattle.iv_words.proofs.Widths.{range_of_sign}
 use Rattle.c_ast.specs.declared.CBinary.{CBinary}
@@ -15,7 +16,7 @@ use Rattle.c_ast.specs.declared.Suffix.{Suffix}
 use Rattle.c_ast.specs.declared.Suffix.TheVariants.{Plain, U}
 use Rattle.c_ast.specs.Conversions.{constant_type_in}
 use Rattle.c_ast.specs.Syntax.{Expr, Number, Unary, Binary}
-use Rattle.c_ast.specs.Targets.{TargetTable, table_of, arith_bits, arith_signed}
+use Rattle.c_ast.specs.Targets.{TargetTable, table_of, arith_bits}
 use Rattle.c_meaning.specs.Values.{CValue, Num, is_true, on_ok}
 use Rattle.c_meaning.specs.Operators.{binary, compared}
 use Rattle.c_meaning.specs.State.{Program, CState}
@@ -28,7 +29,7 @@ use Rattle.overflow_checks.proofs.Numbers.{from_zero}
 use Rattle.overflow_checks.proofs.Rows.{Tests}
 use Rattle.overflow_checks.proofs.SignedValues.{IsSigned, compares, given_is, opposite_is}
 use Rattle.overflow_checks.proofs.Tables.{CTable, table_of_target}
-use Rattle.lower_types.specs.Constants.{constant, negative, number_for, signed_limit}
+use Rattle.lower_types.specs.Constants.{number_for, signed_limit}
 use Rattle.lower_values.specs.Conversions.{joined, is_within}
 use Rattle.value_refinement.specs.Standing.{TestIs}
 use Rattle.value_refinement.proofs.Guards.{truth_tested}
@@ -112,10 +113,6 @@ not_below from_low low v e h = grind (arith, ints)
 not_above : (high from_high v : ℤ) → int_lt high from_high ≡ false → IsTrue (int_le v from_high) → int_le v high ≡ true
 not_above high from_high v e h = grind (arith, ints)
 
-and_true : (b : Bool) → (b && true) ≡ b
-and_true true = refl
-and_true false = refl
-
 module _ (p : Program) (u : CState) (kind : IntKind) (e : Expr) (v : ℤ) (given : IsGiven p u kind e v) (from_low from_high low high : ℤ) (between : IsBetween from_low from_high v) where
   low_tests : IsEnd (is_signed kind) low → Tests p u (Binary Ge e (number_for low)) (int_le low v)
   low_tests end = with_end p u kind e v given Ge (λ x y. int_le y x) (λ x y. refl) (is_signed kind) refl low end
@@ -129,7 +126,7 @@ module _ (p : Program) (u : CState) (kind : IntKind) (e : Expr) (v : ℤ) (given
       truth_tested p u (Binary AndAlso (Binary Ge e (number_for low)) (Binary Le e (number_for high))) (int_le low v && int_le v high)
       (and_also_tests p u (Binary Ge e (number_for low)) (Binary Le e (number_for high)) (int_le low v) (int_le v high) (low_tests (low_end refl)) (λ is. high_tests (high_end refl)))
   joined_tests true false l h low_end high_end =
-      subst (TestIs p u (Binary Ge e (number_for low))) (sym (ap (λ b. int_le low v && b) (not_above high from_high v h between.to_high) ∙ and_true (int_le low v)))
+      subst (TestIs p u (Binary Ge e (number_for low))) (sym (ap (λ b. int_le low v && b) (not_above high from_high v h between.to_high) ∙ and-true (int_le low v)))
       (truth_tested p u (Binary Ge e (number_for low)) (int_le low v) (low_tests (low_end refl)))
   joined_tests false true l h low_end high_end =
       subst (TestIs p u (Binary Le e (number_for high))) (sym (ap (λ b. b && int_le v high) (not_below from_low low v l between.from_low)))

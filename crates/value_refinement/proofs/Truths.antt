@@ -1,5 +1,5 @@
 -- Truths in C: an operand that stands exactly evaluates to its number, two are compared as they are, and what `!` makes of one.
-use Rattle.std.proofs.Common.{◌≡◌, ℕ, ℤ, pos, negsuc, Bool, true, false, not, IsTrue, Option, Some, None, Result, Ok, arith, refl, subst, ap, ◌∙◌}
+use Rattle.std.proofs.Common.{◌≡◌, ℕ, ℤ, pos, negsuc, Bool, true, false, not, IsTrue, Option, Some, None, Ok, arith, refl, subst, ap, ◌∙◌}
 use Rattle.std.specs.Prelude.{IsSome, int_le}
 use Rattle.std.specs.Ordering.{int_eq}
 use Rattle.std.proofs.lemmas.Int.{ints}

@@ -1,5 +1,5 @@
 -- What the guards and the values of each form on numbers come to, where its operands stand exactly for theirs, in any state of C.
-use Rattle.std.specs.Prelude.{◌≡◌, ℕ, ℤ, pos, Bool, true, false, not, ◌||◌, List, map, if◌then◌else◌, slice_get, Some, Ok, Err, IsTrue}
+use Rattle.std.specs.Prelude.{◌≡◌, ℕ, ℤ, pos, Bool, false, not, ◌||◌, List, map, if◌then◌else◌, slice_get, Some, Ok, Err, IsTrue}
 use Rattle.std.specs.Ordering.{int_eq}
 use Rattle.iv_words.specs.Kinds.{in_range}
 use Rattle.iv_words.specs.declared.IntKind.{IntKind}
@@ -7,7 +7,7 @@ use Rattle.iv_words.specs.declared.IntKind.TheVariants.{U16}
 use Rattle.int_ops.specs.Operators.{truth, is_allowed}
 use Rattle.int_ops.specs.declared.Op.{Op}
 use Rattle.index_types.specs.Indices.{is_index, wrapped}
-use Rattle.bit_data.specs.Fields.{field_at, field_of, changed}
+use Rattle.bit_data.specs.Fields.{field_of, changed}
 use Rattle.bit_data.specs.Layouts.{IsLayout}
 use Rattle.bit_data.specs.declared.BitLayout.{BitLayout}
 use Rattle.bit_data.specs.declared.FieldBits.{FieldBits}
@@ -50,8 +50,8 @@ pub record Operand (p : Program) (u : CState) (kind : IntKind) (e : Expr) (n : �
 
 -- ---- operators
 
--- Of a prefix operator both operands are the one that it has. Of an operator that the kind does not have, such as a shift of a signed
--- kind, C may have no value where it answers.
+-- Of a prefix operator both operands are the one that it has. An operator that the kind does not have may answer otherwise in C, as `~` of
+-- a signed kind does.
 abbrev pub OperatorsAnswer : Type 0
 OperatorsAnswer =
     (f : Frame) (p : Program) → f.target ≡ p.target → (u : CState) (o : Op) (kind : IntKind) (a b : Expr) (x y : ℤ) (cs : List Check)
@@ -72,7 +72,7 @@ NegationsAnswer =
 
 -- ---- conversions
 
--- `T(e)`, of a kind or of an index: no other type's ends are those that the guard leaves out
+-- `T(e)`, of a whole number or of an index: the guard counts on the ends of these types alone
 abbrev pub CastsAnswer : Type 0
 CastsAnswer =
     (f : Frame) (p : Program) → f.target ≡ p.target → (u : CState) (from : ValueType) (of_kind kind : IntKind) (e : Expr) (x : ℤ) (cs : List Check)

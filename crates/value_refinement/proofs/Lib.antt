@@ -13,3 +13,9 @@ pub mod FieldMasks
 pub mod FieldValues
 pub mod FieldGuards
 pub mod FieldSets
+pub mod ExactOperands
+pub mod Guards
+pub mod Operators
+pub mod Truths
+pub mod RangeTests
+pub mod Casts

@@ -8,10 +8,11 @@ use Rattle.step_semantics.specs.Follows.{Follows, Ends, Owed}
 use Rattle.step_semantics.specs.Steps.{World, Progress, Halted, Exhausted, FailedCheck, Part, bind, tick, ticks, give, halt, after}
 use Rattle.step_semantics.specs.Takes.{Takes, Reaches}
 use Rattle.step_semantics.proofs.Paying.{pays_to, reaches_more}
+use Rattle.step_semantics.proofs.Following.{eased}
 use Rattle.core_tree.specs.Syntax.{Label}
 use Rattle.core_tree.specs.declared.Check.{Check}
 use Rattle.core_tree.specs.declared.SiteKind.{SiteKind}
-use Rattle.core_meaning.specs.Checks.{Answer, same_kind, holds, tests_of, covered, passes, answered, answering}
+use Rattle.core_meaning.specs.Checks.{Answer, same_kind, holds, tests_of, covered, passes, formless, answered, answering}
 use Rattle.core_meaning.specs.State as source
 use Rattle.core_meaning.specs.State.{State}
 use Rattle.core_meaning.specs.Values.{Value, Num}
@@ -28,7 +29,7 @@ use Rattle.value_refinement.specs.Laws.{Numbered, owing, running}
 use Rattle.value_refinement.specs.Related.{Related}
 use Rattle.value_refinement.specs.Settings.{Setting, Set}
 use Rattle.value_refinement.specs.Standing.{TestIs}
-use Rattle.value_refinement.proofs.Running.{runs_first, takes_pad, takes_test, stops_test}
+use Rattle.value_refinement.proofs.Running.{runs_first, takes_pad, takes_test, stops_test, test_waits}
 
 -- ---- areas are seen alike
 
@@ -94,7 +95,7 @@ module _ (g : Setting) (guard : SiteKind → Expr) (is_settled : SiteKind → Bo
       go true e t = let no : ⊥ = cc in absurd no
       go false e t = record {
         site = c.site;
-        small = All-head small;
+        small = All-head (λ d. d.site < 2 ^ 32) c cs small;
         expr = guard c.kind;
         fails = t;
         more = tests_on cs ++ rest;
@@ -131,7 +132,7 @@ module _ (g : Setting) (guard : SiteKind → Expr) (is_settled : SiteKind → Bo
 
     pub first_stops : (cs : List Check) (rest : List Stmt) → Numbered cs → IsTrue (covered (Err failed) cs) → GuardsTell g.program u guard is_settled (Err failed) cs → Stops cs rest
     first_stops [] rest small some tell = let no : ⊥ = cc in absurd no
-    first_stops (c ∷ cs) rest small some tell = go (same_kind failed c.kind) refl some tell (λ t some. first_stops cs rest (All-tail small) some t) where
+    first_stops (c ∷ cs) rest small some tell = go (same_kind failed c.kind) refl some tell (λ t some. first_stops cs rest (All-tail (λ d. d.site < 2 ^ 32) c cs small) some t) where
       go : (b : Bool) → same_kind failed c.kind ≡ b → IsTrue (b || list_any (λ d. same_kind failed d.kind) cs) → (GuardTells (is_settled c.kind) g.program u (guard c.kind) (not b) × (IsTrue (not b) → GuardsTell g.program u guard is_settled (Err failed) cs))
           → (GuardsTell g.program u guard is_settled (Err failed) cs → IsTrue (list_any (λ d. same_kind failed d.kind) cs) → Stops cs rest) → Stops (c ∷ cs) rest
       go true e any t next = here c cs rest small e t.0
@@ -156,8 +157,51 @@ module _ (g : Setting) (set : Set g) (objects : Map) (s : State) (guard : SiteKi
   passing : (v : ℤ) → GuardsTell g.program u guard is_settled (Ok v) l.checks
       → ((m : ℕ) (w : World) → Follows g.frame.skip post (x + (if are_none row then 0 else 8)) y m (ticks (owing (are_none row)) (go (Num v)) m w s) (λ j. running g rest j w u))
       → (n : ℕ) (w : World) → Follows g.frame.skip post x y n (after (answering g.frame.core l (Ok v) n w s) go) (λ j. running g (row ++ rest) j w u)
-  passing v tell next n w = ?
+  passing v tell next n w =
+      subst (λ r. Follows g.frame.skip post x y n r (λ j. running g (row ++ rest) j w u)) (sym (goes_on v n w))
+      (by_row row (all_pass g guard is_settled u w v l.checks rest tell) (few_tests g guard is_settled u w v l.checks) next)
+    where
+      by_row : (ts : List Stmt) → Reaches (length ts) w (λ j. running g (ts ++ rest) j w u) (λ j. running g rest j w u) → length ts ≤ length l.checks
+          → ((m : ℕ) (w : World) → Follows g.frame.skip post (x + (if are_none ts then 0 else 8)) y m (ticks (owing (are_none ts)) (go (Num v)) m w s) (λ j. running g rest j w u))
+          → Follows g.frame.skip post x y n (tick (go (Num v)) n w s) (λ j. running g (ts ++ rest) j w u)
+      by_row [] reach le h = eased g.frame.skip post (x + 0) y x y n (tick (go (Num v)) n w s) (λ j. running g rest j w u) (omega arith) (omega arith) (h n w)
+      by_row (t ∷ ts) reach le h =
+          pays_to g.frame.skip post (suc (length ts)) 1 x (x + 8) y (go (Num v)) w s (omega arith) (omega (arith, le, few)) (λ j. running g ((t ∷ ts) ++ rest) j w u) (λ j. running g rest j w u) reach (λ m. h m w) n
 
+  -- a run of both that ends at the first check that fails
   failing : (failed : SiteKind) → GuardsTell g.program u guard is_settled (Err failed) l.checks → (n : ℕ) (w : World)
       → Follows g.frame.skip post x y n (after (answering g.frame.core l (Err failed) n w s) go) (λ j. running g (row ++ rest) j w u)
-  failing failed tell n w = ?
+  failing failed tell n w = by_cover (covered (Err failed) l.checks) refl where
+    stopping : Stops g guard is_settled u w failed l.checks rest → (m : ℕ)
+        → Follows g.frame.skip post x y m (after (tick (passes g.frame.core (tests_of (Err failed) l.checks) (answered g.frame.core (Err failed))) m w s) go) (λ j. running g (row ++ rest) j w u)
+    stopping h zero = record { steps = 0; many = omega arith; few = omega arith; is = waits_first h.steps h.reaches } where
+      waits_first : (k : ℕ) → Reaches k w (λ j. running g (row ++ rest) j w u) (λ j. running g ((if g.frame.skip h.site then pad else test_for h.expr h.site) ∷ h.more) j w u) → running g (row ++ rest) 0 w u ≡ Exhausted w
+      waits_first zero r = r.comes 0 ∙ first_waits (g.frame.skip h.site)
+        where
+          first_waits : (b : Bool) → running g ((if b then pad else test_for h.expr h.site) ∷ h.more) 0 w u ≡ Exhausted w
+          first_waits true = (runs_first g 1 pad h.more w u u (takes_pad g w u)).waits 0 (omega arith)
+          first_waits false = test_waits g w u h.expr h.site h.more h.fails
+      waits_first (suc k) r = r.waits 0 (omega arith)
+    stopping h (suc m) =
+        subst (λ r. Follows g.frame.skip post x y (suc m) (after r go) (λ j. running g (row ++ rest) j w u)) (sym (h.halts (answered g.frame.core (Err failed)) m w s))
+        (owed_unless (g.frame.skip h.site) refl)
+      where
+        owed_unless : (b : Bool) → g.frame.skip h.site ≡ b → Owed (g.frame.skip h.site) (Ends x (suc m) (FailedCheck h.site) w (source.seen g.frame.core s) (λ j. running g (row ++ rest) j w u))
+        owed_unless true e = subst (λ b. Owed b _) (sym e) tt
+        owed_unless false e = owed_now (g.frame.skip h.site) _ (record {
+          steps = h.steps + 2;
+          few = omega (arith, h.few, few);
+          is = h.reaches.comes 2 ∙ ap (λ b. running g ((if b then pad else test_for h.expr h.site) ∷ h.more) 2 w u) e ∙ stops_test g w u h.expr h.site h.more h.small h.fails 0
+              ∙ ap (λ cells. Halted (FailedCheck h.site) w cells) (areas_alike g set objects s u related);
+        })
+
+    by_cover : (b : Bool) → covered (Err failed) l.checks ≡ b → Follows g.frame.skip post x y n (after ((if b then tick (passes g.frame.core (tests_of (Err failed) l.checks) (answered g.frame.core (Err failed))) else formless g.frame.core) n w s) go) (λ j. running g (row ++ rest) j w u)
+    by_cover true e = stopping (first_stops g guard is_settled u w failed l.checks rest small e tell) n
+    by_cover false e = tt
+
+  -- what a form answers, and what is done with it
+  pub answer_follows : (answer : Answer) → GuardsTell g.program u guard is_settled answer l.checks
+      → ((v : ℤ) → answer ≡ Ok v → (m : ℕ) (w : World) → Follows g.frame.skip post (x + (if are_none row then 0 else 8)) y m (ticks (owing (are_none row)) (go (Num v)) m w s) (λ j. running g rest j w u))
+      → (n : ℕ) (w : World) → Follows g.frame.skip post x y n (bind (answering g.frame.core l answer) go n w s) (λ j. running g (row ++ rest) j w u)
+  answer_follows (Ok v) tell next n w = passing v tell (λ m z. next v refl m z) n w
+  answer_follows (Err failed) tell next n w = failing failed tell n w

@@ -141,3 +141,9 @@ module _ (g : Setting) (w : World) (t : CState) where
       let body : Stmts = Cons (stop_at site) Nil in
       ap (λ r. after (given g.program r (λ holds. tick (if holds then block leave (exec_all g.program g.functions body) else give Falls)) (suc (suc j)) w t) (onward (running g rest))) (not_tests g.program t guard false fails)
       ∙ ap (λ r. after (left leave t (after r (onward (give Falls)))) (onward (running g rest))) (stopped site small j)
+
+  -- and waits for its first
+  pub test_waits : (guard : Expr) (site : ℕ) (rest : List Stmt) → TestIs g.program t guard false → running g (test_for guard site ∷ rest) 0 w t ≡ Exhausted w
+  test_waits guard site rest fails =
+      let body : Stmts = Cons (stop_at site) Nil in
+      ap (λ r. after (given g.program r (λ holds. tick (if holds then block leave (exec_all g.program g.functions body) else give Falls)) 0 w t) (onward (running g rest))) (not_tests g.program t guard false fails)

@@ -1,10 +1,10 @@
 -- What the guards and the values of each form on numbers come to, where its operands stand exactly for theirs, in any state of C.
-use Rattle.std.specs.Prelude.{◌≡◌, ℕ, ℤ, pos, Bool, false, not, List, map, if◌then◌else◌, slice_get, Some, Ok, Err, IsTrue}
+use Rattle.std.specs.Prelude.{◌≡◌, ℕ, ℤ, pos, Bool, false, not, ◌||◌, List, map, if◌then◌else◌, slice_get, Some, Ok, Err, IsTrue}
 use Rattle.std.specs.Ordering.{int_eq}
 use Rattle.iv_words.specs.Kinds.{in_range}
 use Rattle.iv_words.specs.declared.IntKind.{IntKind}
 use Rattle.iv_words.specs.declared.IntKind.TheVariants.{U16}
-use Rattle.int_ops.specs.Operators.{truth}
+use Rattle.int_ops.specs.Operators.{truth, is_allowed}
 use Rattle.int_ops.specs.declared.Op.{Op}
 use Rattle.index_types.specs.Indices.{is_index, wrapped}
 use Rattle.bit_data.specs.Fields.{field_of, changed}
@@ -13,6 +13,7 @@ use Rattle.bit_data.specs.declared.BitLayout.{BitLayout}
 use Rattle.bit_data.specs.declared.FieldBits.{FieldBits}
 use Rattle.area_types.specs.Syntax.{ValueType, Int, Ix}
 use Rattle.area_types.specs.Tables.{is_length}
+use Rattle.source_types.specs.Values.{is_integer, is_index_type}
 use Rattle.core_tree.specs.Operators.{cast_sites, indexing_sites, set_sites, field_type}
 use Rattle.core_tree.specs.Types.{is_value}
 use Rattle.core_tree.specs.declared.Check.{Check}
@@ -49,11 +50,12 @@ pub record Operand (p : Program) (u : CState) (kind : IntKind) (e : Expr) (n : �
 
 -- ---- operators
 
--- of a prefix operator both operands are the one that it has
+-- Of a prefix operator both operands are the one that it has. An operator that the kind does not have may answer otherwise in C, as `~` of
+-- a signed kind does.
 abbrev pub OperatorsAnswer : Type 0
 OperatorsAnswer =
     (f : Frame) (p : Program) → f.target ≡ p.target → (u : CState) (o : Op) (kind : IntKind) (a b : Expr) (x y : ℤ) (cs : List Check)
-    → Operand p u kind a x → Operand p u kind b y → AreFor cs (map site_of (checks o kind))
+    → IsTrue (is_allowed o kind) → Operand p u kind a x → Operand p u kind b y → AreFor cs (map site_of (checks o kind))
     → GuardsTell p u (guard_in f kind o a b) (settled kind o b) (in_kind o kind x y) cs
     × ((v : ℤ) → in_kind o kind x y ≡ Ok v → Converts p u (result_type o kind) (computed kind o a b) v)
 
@@ -70,11 +72,11 @@ NegationsAnswer =
 
 -- ---- conversions
 
--- `T(e)`, of a kind or of an index
+-- `T(e)`, of a whole number or of an index: the guard counts on the ends of these types alone
 abbrev pub CastsAnswer : Type 0
 CastsAnswer =
     (f : Frame) (p : Program) → f.target ≡ p.target → (u : CState) (from : ValueType) (of_kind kind : IntKind) (e : Expr) (x : ℤ) (cs : List Check)
-    → kind_in f from ≡ Some of_kind → Operand p u of_kind e x → IsTrue (is_value f.core.structs from x) → AreFor cs (cast_sites kind from)
+    → IsTrue (is_integer from || is_index_type from) → kind_in f from ≡ Some of_kind → Operand p u of_kind e x → IsTrue (is_value f.core.structs from x) → AreFor cs (cast_sites kind from)
     → GuardsTell p u (λ which. range_guard f from (Int kind) (valued (Some of_kind) e)) never (if in_range kind x then Ok x else Err Cast) cs
     × IsNumber p u (valued (Some of_kind) e) x
 

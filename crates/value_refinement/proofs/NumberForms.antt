@@ -187,8 +187,8 @@ module _ (g : Setting) (set : Set g) (objects : Map) (s : State) (guard : SiteKi
         (owed_unless (g.frame.skip h.site) refl)
       where
         owed_unless : (b : Bool) → g.frame.skip h.site ≡ b → Owed (g.frame.skip h.site) (Ends x (suc m) (FailedCheck h.site) w (source.seen g.frame.core s) (λ j. running g (row ++ rest) j w u))
-        owed_unless true e = subst (λ b. Owed b _) (sym e) tt
-        owed_unless false e = owed_now (g.frame.skip h.site) _ (record {
+        owed_unless true e = subst (λ b. Owed b (Ends x (suc m) (FailedCheck h.site) w (source.seen g.frame.core s) (λ j. running g (row ++ rest) j w u))) (sym e) tt
+        owed_unless false e = owed_now (g.frame.skip h.site) (Ends x (suc m) (FailedCheck h.site) w (source.seen g.frame.core s) (λ j. running g (row ++ rest) j w u)) (record {
           steps = h.steps + 2;
           few = omega (arith, h.few, few);
           is = h.reaches.comes 2 ∙ ap (λ b. running g ((if b then pad else test_for h.expr h.site) ∷ h.more) 2 w u) e ∙ stops_test g w u h.expr h.site h.more h.small h.fails 0

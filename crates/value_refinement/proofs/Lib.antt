@@ -4,6 +4,7 @@ pub mod Running
 pub mod Types
 pub mod Operands
 pub mod NumberForms
+pub mod NumberParts
 pub mod OperandValues
 pub mod Naturals
 pub mod Remainders

@@ -5,6 +5,7 @@ pub mod Types
 pub mod Operands
 pub mod NumberForms
 pub mod NumberParts
+pub mod Given
 pub mod OperandValues
 pub mod Naturals
 pub mod Remainders

@@ -6,6 +6,7 @@ pub mod Operands
 pub mod NumberForms
 pub mod NumberParts
 pub mod Given
+pub mod UnaryForms
 pub mod OperandValues
 pub mod Naturals
 pub mod Remainders

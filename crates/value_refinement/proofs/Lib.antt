@@ -6,7 +6,9 @@ pub mod Operands
 pub mod NumberForms
 pub mod NumberParts
 pub mod Given
+pub mod BitWords
 pub mod UnaryForms
+pub mod PrefixForms
 pub mod OperandValues
 pub mod Naturals
 pub mod Remainders

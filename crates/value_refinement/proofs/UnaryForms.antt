@@ -82,7 +82,7 @@ has_kind t (types.Ref constant region target) e = let no : ⊥ = cc in absurd no
 
 module _ (g : Setting) (set : Set g) (objects : Map) (s : State) (stage : Stage g s) where
   -- a form that answers a number, by the number of its operand
-  abbrev answers_of : Label → ExprCore → (ℤ → Answer) → Part State Value
+  abbrev pub answers_of : Label → ExprCore → (ℤ → Answer) → Part State Value
   answers_of l e answer = bind (eval g.frame.core g.outcome e) (λ x. on_number g.frame.core x (λ a. answering g.frame.core l (answer a)))
 
   -- one that always has a number takes a step alone

@@ -33,7 +33,7 @@ use Rattle.area_objects.proofs.Kept.{both_kept}
 use Rattle.lower_types.specs.Names.{item_name}
 use Rattle.lower_types.specs.Types.{scalar_for}
 use Rattle.lower_types.proofs.Names.{item_is_no_local}
-use Rattle.lower_values.specs.Expressions.{area_place, local_place, local_value, reference_to}
+use Rattle.lower_values.specs.Expressions.{name_or_empty, area_place, local_place, local_value, reference_to}
 use Rattle.lower_values.specs.Frames.{is_object, name_of}
 use Rattle.value_refinement.specs.Kept.{Kept}
 use Rattle.value_refinement.specs.Related.{PointerIs, PlaceIs, NameStands, Related}
@@ -171,18 +171,20 @@ module _ (g : Setting) (objects : Map) (areas : Areas) (k : ℕ) (u w : CState) 
 pub item_is_old : (k : ℕ) (name : Name) → IsOld k (item_name name)
 item_is_old k name j le = item_is_no_local name j
 
-module _ (g : Setting) (set : Set g) (objects : Map) (s : State) (k : ℕ) (from : g.first ≤ k) (u w : CState) (kept : Kept g.program k u w) (related : Related g objects s u) where
-  global_on : (n : ℕ) (a : AreaCore) → slice_get g.frame.core.areas n ≡ Some a → PlaceIs g objects s.areas w a.constant (area_place g.frame n) n []
+module _ (g : Setting) (objects : Map) (s : State) (k : ℕ) (u w : CState) (kept : Kept g.program k u w) (related : Related g objects s u) where
+  -- the module's areas, whichever temporaries were declared
+  pub global_on : (n : ℕ) (a : AreaCore) → slice_get g.frame.core.areas n ≡ Some a → PlaceIs g objects s.areas w a.constant (area_place g.frame n) n []
   global_on n a e =
-      let is : area_place g.frame n ≡ Var (item_name a.name) = ap (λ found. Var (Rattle.lower_values.specs.Expressions.name_or_empty found)) e in
+      let is : area_place g.frame n ≡ Var (item_name a.name) = ap (λ found. Var (name_or_empty found)) e in
       subst (λ l. PlaceIs g objects s.areas w a.constant l n []) (sym is)
       (place_on g objects s.areas k u w kept (item_name a.name) (item_is_old k a.name) a.constant n [] (subst (λ l. PlaceIs g objects s.areas u a.constant l n []) is (related.globals n a e)))
 
+module _ (g : Setting) (set : Set g) (objects : Map) (s : State) (k : ℕ) (from : g.first ≤ k) (u w : CState) (kept : Kept g.program k u w) (related : Related g objects s u) where
   pub related_on : Related g objects s w
   related_on = record {
     both = both_kept (metric_of g.program.target) _ (memory_of g.program.target) g.naming objects s.areas s.areas u.objects w.objects related.both refl kept.count (λ j o a l. (l, kept.objects o (related.both.made j o l.object)));
     own = related.own;
-    globals = global_on;
+    globals = global_on g objects s k u w kept related;
     locals = λ x ty v here type has.
         name_on g objects s.areas k u w kept (name_of g.frame x) (older g.first k (name_of g.frame x) from (set.locals x ty type)) (is_object g.frame x) ty v (related.locals x ty v here type has);
     result = λ ty v type has. (let o = set.result ty type in result_on ty v o.name o.is (older g.first k o.name from o.old) (related.result ty v type has));

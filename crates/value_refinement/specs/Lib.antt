@@ -6,3 +6,4 @@ pub mod FormLaws
 pub mod Related
 pub mod Values
 pub mod Laws
+pub mod Lets

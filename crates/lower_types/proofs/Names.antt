@@ -63,3 +63,12 @@ item_is_no_local name j e =
     let third : (95 ∷ name) ≡ (116 ∷ 95 ∷ numeral j) = same_tail 118 118 _ _ (same_tail 105 105 _ _ e) in
     let first : head_of 0 (95 ∷ name) ≡ head_of 0 (116 ∷ 95 ∷ numeral j) = ap (head_of 0) third in
     absurd (omega (arith, first))
+
+pub item_is_no_array : (name : Name) (j : ℕ) → item_name name ≢ array_name j
+item_is_no_array name j e =
+    let third : (95 ∷ name) ≡ (97 ∷ 95 ∷ numeral j) = same_tail 118 118 _ _ (same_tail 105 105 _ _ e) in
+    let first : head_of 0 (95 ∷ name) ≡ head_of 0 (97 ∷ 95 ∷ numeral j) = ap (head_of 0) third in
+    absurd (omega (arith, first))
+
+pub items_differ : (first second : Name) → item_name first ≡ item_name second → first ≡ second
+items_differ first second e = same_tail 95 95 first second (same_tail 118 118 _ _ (same_tail 105 105 _ _ e))

@@ -1,7 +1,7 @@
 -- How what a module declares is named in C. What the outside sees, the parameters and the structs keep their names behind `iv_`; array
 -- types are `iva_` and a number, and all names that a function's body declares `ivt_` and a number. The prefixes differ before their last
 -- letter and numerals are injective, so no two names of different things of one function are alike.
-use Rattle.std.specs.Prelude.{ℕ, zero, suc, ◌+◌, ◌/◌, ◌%◌, nat_lt, if◌then◌else◌, List, [], ◌∷◌, ◌++◌, codes}
+use Rattle.std.specs.Prelude.{◌≡◌, ◌≢◌, ℕ, zero, suc, ◌+◌, ◌/◌, ◌%◌, nat_lt, if◌then◌else◌, List, [], ◌∷◌, ◌++◌, codes}
 use Rattle.c_ast.specs.Names.{prefixed}
 use Rattle.c_ast.specs.Syntax.{Name}
 
@@ -29,3 +29,18 @@ elements_name = codes "at"
 -- a local of that number that is no parameter; temporaries have the numbers after those of all locals
 abbrev pub local_name : ℕ → Name
 local_name k = codes "ivt_" ++ numeral k
+
+-- ---- names of different things
+
+abbrev pub LocalsDiffer : Type 0
+LocalsDiffer = (j k : ℕ) → local_name j ≡ local_name k → j ≡ k
+
+abbrev pub ArraysDiffer : Type 0
+ArraysDiffer = (j k : ℕ) → array_name j ≡ array_name k → j ≡ k
+
+abbrev pub ItemsDiffer : Type 0
+ItemsDiffer = (first second : Name) → item_name first ≡ item_name second → first ≡ second
+
+-- what has its own name is no local and no array type
+abbrev pub ItemsStandApart : Type 0
+ItemsStandApart = (name : Name) (j : ℕ) → (item_name name ≢ local_name j) × (item_name name ≢ array_name j)

@@ -1,4 +1,13 @@
 ghost use Rattle.lower_types.specs.Examples as example;
+ghost use Rattle.lower_types.specs.Names.{LocalsDiffer, ArraysDiffer, ItemsDiffer, ItemsStandApart};
+
+/// No two things of one function are named alike.
+pub fn names_differ()
+    ensures locals { LocalsDiffer }
+    ensures arrays { ArraysDiffer }
+    ensures items { ItemsDiffer }
+    ensures apart { ItemsStandApart }
+{}
 
 /// Small declarations, and exactly their C.
 pub fn declaration_examples()

@@ -9,6 +9,7 @@ pub mod Given
 pub mod BitWords
 pub mod UnaryForms
 pub mod PrefixForms
+pub mod Names
 pub mod Lets
 pub mod OperandValues
 pub mod Naturals

@@ -10,6 +10,7 @@ pub mod BitWords
 pub mod UnaryForms
 pub mod PrefixForms
 pub mod Names
+pub mod Literals
 pub mod Lets
 pub mod OperandValues
 pub mod Naturals

@@ -51,7 +51,7 @@ module _ (p : Program) (u : CState) where
   table = table_of_target p.target
 
   -- a constant, as an operand of a signed type
-  signed_constant : (n : ℕ) (c : IsTyped t table true (pos n) (constant_type_in t Plain n)) → IsSigned p u table (arith_bits t c.type) (Number n Plain) (pos n)
+  pub signed_constant : (n : ℕ) (c : IsTyped t table true (pos n) (constant_type_in t Plain n)) → IsSigned p u table (arith_bits t c.type) (Number n Plain) (pos n)
   signed_constant n c = record {
     kind = Computed c.type;
     gives = constant_gives p u n Plain c.type c.found_it;
@@ -60,7 +60,7 @@ module _ (p : Program) (u : CState) where
     all = λ w h. subst (λ signed. IsTrue (in_range_of (arith_bits t c.type) signed w)) (sym c.sign) h;
   }
 
-  opposite_has : (bits n : ℕ) → IsTrue (in_range_of bits true (pos n)) → IsTrue (in_range_of bits true (neg_ℤ (pos n)))
+  pub opposite_has : (bits n : ℕ) → IsTrue (in_range_of bits true (pos n)) → IsTrue (in_range_of bits true (neg_ℤ (pos n)))
   opposite_has bits n h = let some = pow_pos (bits - 1) in grind (arith, ints)
 
   module _ (kind : IntKind) (e : Expr) (v : ℤ) (given : IsGiven p u kind e v) (op : CBinary) (test : ℤ → ℤ → Bool)

@@ -1,7 +1,6 @@
 -- What single statements of C take and leave: a statement that does nothing, the declaration of a name, and the test of a check.
 use Rattle.std.proofs.Common.{◌≡◌, ℕ, zero, suc, ◌+◌, ◌*◌, ◌^◌, ◌<◌, ◌≤◌, ℤ, pos, Bool, true, false, List, [], ◌∷◌, ◌++◌, length, map, Option, Some, None, Result, Ok, Err, refl, sym, ◌∙◌, ap, subst, arith, lit<}
-use Rattle.std.specs.Prelude.{if◌then◌else◌, not, nat_le, IsSome, IsTrue}
-use Rattle.std.proofs.lemmas.Bool.{le-leb}
+use Rattle.std.specs.Prelude.{if◌then◌else◌, not, IsSome, IsTrue}
 use Rattle.std.specs.Ordering.{int_eq}
 use Rattle.step_semantics.specs.Control.{Control, Falls, onward}
 use Rattle.step_semantics.specs.Steps.{World, Progress, Finished, Halted, Exhausted, FailedCheck, Part, give, after, tick, by_state, change, left, block}
@@ -10,7 +9,6 @@ use Rattle.step_semantics.proofs.Paying.{takes_reaches, takes_tick}
 use Rattle.c_memory.specs.Blocks as blocks
 use Rattle.c_memory.specs.Objects.{Objects}
 use Rattle.c_ast.specs.declared.Arith.{Arith}
-use Rattle.c_ast.specs.declared.Arith.TheVariants.{Int, Long, LongLong}
 use Rattle.c_ast.specs.declared.CKind.{CKind}
 use Rattle.c_ast.specs.declared.CKind.TheVariants.{Scalar, Arith as Computed}
 use Rattle.c_ast.specs.declared.CScalar.TheVariants as scalar
@@ -19,12 +17,14 @@ use Rattle.c_ast.specs.declared.CType.{CType}
 use Rattle.c_ast.specs.declared.CType.TheVariants.{Value}
 use Rattle.c_ast.proofs.Conversions.{held_stays}
 use Rattle.c_ast.specs.Names.{stop_name}
+use Rattle.c_ast.specs.Targets.{table_of}
+use Rattle.overflow_checks.proofs.Constants.{plain_typed, typed_is_some}
 use Rattle.overflow_checks.proofs.Numbers.{natural}
+use Rattle.overflow_checks.proofs.Tables.{table_of_target}
 use Rattle.c_ast.specs.declared.CUnary.TheVariants.{Not}
 use Rattle.c_ast.specs.declared.Suffix.{Suffix}
 use Rattle.c_ast.specs.declared.Suffix.TheVariants.{Plain}
 use Rattle.c_ast.specs.declared.Target.{Target}
-use Rattle.c_ast.specs.declared.Target.TheVariants.{T32}
 use Rattle.c_ast.specs.Conversions.{constant_type}
 use Rattle.c_ast.specs.Syntax.{Name, Expr, Number, Unary, Stmt, Stmts, Const, If, Nil, Cons}
 use Rattle.c_meaning.specs.Expressions.{eval, eval_all}
@@ -53,11 +53,7 @@ module _ (g : Setting) where
 
 -- a constant below 2^63 has a type
 pub constants_typed : (t : Target) (v : ℕ) → v < 2 ^ 63 → IsSome (constant_type t Plain v)
-constants_typed T32 v lt = go (nat_le v 2_147_483_647) (nat_le v 9_223_372_036_854_775_807) (le-leb v 9_223_372_036_854_775_807 (omega (arith, lt))) where
-  go : (narrow wide : Bool) → wide ≡ true → IsSome (if narrow then Some Int else (if narrow then Some Long else (if wide then Some LongLong else None)))
-  go true wide e = refl
-  go false true e = refl
-  go false false e = let no : ⊥ = cc in absurd no
+constants_typed t v lt = typed_is_some (table_of t) (table_of_target t) true (pos v) (constant_type t Plain v) (plain_typed (table_of t) (table_of_target t) v lt)
 
 -- and its own value
 pub constant_gives : (p : Program) (v : ℕ) (t : CState) → v < 2 ^ 63 → (kind : CKind) × (eval p (Number v Plain) t ≡ Ok (Num kind (pos v)))

@@ -11,6 +11,7 @@ pub mod UnaryForms
 pub mod PrefixForms
 pub mod Names
 pub mod Literals
+pub mod References
 pub mod Lets
 pub mod OperandValues
 pub mod Naturals

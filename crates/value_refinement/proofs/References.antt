@@ -1,0 +1,181 @@
+-- References: fields and elements of what a reference leads to, and what is read through one.
+use Rattle.std.proofs.Common.{◌≡◌, ◌≢◌, ℕ, zero, suc, ◌+◌, ◌*◌, ◌<◌, ◌≤◌, ℤ, pos, negsuc, Bool, true, false, IsTrue, List, [], ◌∷◌, ◌++◌, Option, Some, None, Result, Ok, Err, refl, sym, ◌∙◌, ap, subst, arith}
+use Rattle.std.specs.Prelude.{if◌then◌else◌, slice_get, unsigned_abs}
+use Rattle.std.specs.Option.{option_map, option_and_then}
+use Rattle.std.proofs.lemmas.List.{append_assoc}
+use Rattle.step_semantics.specs.Control.{Control}
+use Rattle.step_semantics.specs.Follows.{Follows}
+use Rattle.step_semantics.specs.Steps.{World, Part, bind, after, tick, ticks, give}
+use Rattle.step_semantics.proofs.Equations.{after_after}
+use Rattle.step_semantics.proofs.Following.{eased}
+use Rattle.step_semantics.proofs.Paying.{pays_to}
+use Rattle.type_trees.specs.Trees.{Leaf, Many, Struct, part}
+use Rattle.type_trees.specs.Values.{Cell, Parts, at}
+use Rattle.area_types.specs.Syntax as types
+use Rattle.area_types.specs.Syntax.{ValueType, Area}
+use Rattle.area_types.specs.Tables.{structs_of, written_out}
+use Rattle.area_types.specs.Trees.{Written, WrittenRow}
+use Rattle.area_types.specs.declared.region.Region.{Region}
+use Rattle.core_tree.specs.Environments.{struct_field}
+use Rattle.core_tree.specs.Syntax as core
+use Rattle.core_tree.specs.Syntax.{ExprCore, Label, type_of}
+use Rattle.core_tree.specs.TypedExpressions.{ExprTyped, StructFieldTyped, DerefTyped}
+use Rattle.core_meaning.specs.Areas.{Area as Held, Areas, Live, number_in, number_at}
+use Rattle.core_meaning.specs.Areas as areas_of
+use Rattle.core_meaning.specs.Checks.{on_some, on_reference}
+use Rattle.core_meaning.specs.Expressions.{field_behind, number_behind, eval}
+use Rattle.core_meaning.specs.Gives.{Gives, CellGives}
+use Rattle.core_meaning.specs.State.{State}
+use Rattle.core_meaning.specs.Values.{Value, Num, Ref}
+use Rattle.c_ast.specs.declared.CKind.TheVariants.{Scalar}
+use Rattle.c_ast.specs.Scalars.{metric_of}
+use Rattle.c_ast.specs.StaticTypes.{PlaceType, Stored, Arithmetic, member_tree, of_member, of_read}
+use Rattle.c_ast.specs.Structs.{CTree, offset_named}
+use Rattle.c_ast.specs.Syntax.{Name, Expr, Read, Address, Place, Var, At, Member, Element, Stmt}
+use Rattle.c_meaning.specs.Expressions as target_of
+use Rattle.c_meaning.specs.Places.{Lvalue, Known, Located, part_at, behind, member_of, address_of}
+use Rattle.c_meaning.specs.Places as places
+use Rattle.c_meaning.specs.State.{CState}
+use Rattle.c_meaning.specs.Values as target
+use Rattle.c_meaning.specs.Values.{CValue, Trouble, on_ok}
+use Rattle.region_soundness.specs.Fitting.{ValueFits}
+use Rattle.region_soundness.proofs.Structs.{struct_there, struct_field_is, field_part}
+use Rattle.area_objects.specs.Both.{Map, LiveIn}
+use Rattle.area_objects.specs.Located.{Numbered, IsType, begins, located}
+use Rattle.area_objects.specs.Shapes.{shape, members, base_of}
+use Rattle.area_objects.proofs.Located.{fields_in_order, fields_located, parts_pointed_to}
+use Rattle.area_objects.proofs.Outside.{places_read}
+use Rattle.lower_types.specs.Types.{scalar_for}
+use Rattle.lower_values.specs.Expressions.{raw, place, field_in, reference_to}
+use Rattle.lower_values.specs.Expressions as lowered
+use Rattle.lower_values.specs.Pieces.{Piece, PlacePiece, pad}
+use Rattle.value_refinement.specs.Kept.{Kept}
+use Rattle.value_refinement.specs.Laws.{Stage, Goes, GoesTo, RawFollows, PlaceFollows, running}
+use Rattle.value_refinement.specs.Related.{is_constant, PointerIs, PlaceIs, Related}
+use Rattle.value_refinement.specs.Settings.{Setting, Set, HasCType}
+use Rattle.value_refinement.specs.Standing.{HasScalar}
+use Rattle.value_refinement.specs.Values.{Comes, Arrives, StandsFor}
+use Rattle.value_refinement.proofs.Names.{reference_follows}
+use Rattle.value_refinement.proofs.Running.{runs_first, takes_pad}
+use Rattle.value_refinement.proofs.Standings.{related_on}
+
+module _ (g : Setting) (set : Set g) (objects : Map) (s : State) (stage : Stage g s) where
+  -- a reference leads to a part of its own type
+  module _ (e : ExprCore) (typed : ExprTyped g.env g.scope e) (constant : Bool) (region : Region) (area : Area) (is : type_of e ≡ types.Ref constant region area) where
+    pub content_is : (k : ℕ) (path : List ℕ) → Gives g.frame.core g.outcome s e (Ref k path) → (w : CState) (c : Bool) (d : Expr) (points : PointerIs g objects s.areas w c d k path) → points.content ≡ written_out g.frame.core.structs area
+    content_is k path gives w c d points =
+        let fits : ValueFits g.frame.core stage.entry s.areas (types.Ref constant region area) (Ref k path) = subst (λ ty. ValueFits g.frame.core stage.entry s.areas ty (Ref k path)) is (stage.fits e (Ref k path) typed gives) in
+        let live : Some (Live points.area) ≡ Some (Live fits.area) = sym points.lives.live ∙ fits.live in
+        let same : points.area ≡ fits.area = cc in
+        let both : Some points.content ≡ Some (written_out g.frame.core.structs area) = sym points.leads ∙ ap (λ a. part a.ty path) same ∙ fits.leads in
+        cc
+
+    pub no_number : (n : ℤ) → Gives g.frame.core g.outcome s e (Num n) → ⊥
+    no_number n gives =
+        let fits : ValueFits g.frame.core stage.entry s.areas (types.Ref constant region area) (Num n) = subst (λ ty. ValueFits g.frame.core stage.entry s.areas ty (Num n)) is (stage.fits e (Num n) typed gives) in
+        let no : ⊥ = cc in no
+
+  -- ---- longer paths
+
+  -- a place that a longer path leads to
+  deeper : (w : CState) (c : Bool) (to new : Place) (k : ℕ) (path longer : List ℕ) (h : PlaceIs g objects s.areas w c to k path) (b : Written)
+      → part h.pointer.area.ty longer ≡ Some b → target_of.eval_place g.program new w ≡ Ok (located g.program.target g.naming c h.pointer.object h.pointer.area.ty longer b)
+      → target_of.static_place_type g.program w new ≡ Some (Stored c (shape g.naming b)) → reference_to new ≡ Address new → IsType g.naming g.program.unit.structs (base_of g.naming b) b → PlaceIs g objects s.areas w c new k longer
+  deeper w c to new k path longer h b leads is type itself declared =
+      let pointer : PointerIs g objects s.areas w c (reference_to new) k longer = record {
+        object = h.pointer.object;
+        area = h.pointer.area;
+        lives = h.pointer.lives;
+        content = b;
+        leads = leads;
+        is = ap (λ d. target_of.eval g.program d w) itself ∙ ap (λ l. on_ok l address_of) is ∙ (parts_pointed_to g.program.target g.naming g.program.unit.structs c h.pointer.object h.pointer.area.ty longer b declared).0;
+      } in
+      record { pointer = pointer; is = is; type = type }
+
+  -- ---- fields of structs
+
+  -- a member that has a place has a type
+  member_found : (c : Bool) (to r : target.Address) (a : CTree) (offset : ℕ) (found : Option CTree) → part_at c (behind to offset) found ≡ Ok (Located c r a) → found ≡ Some a
+  member_found c to r a offset (Some b) e = let same : b ≡ a = cc in ap Some same
+  member_found c to r a offset None e = let no : ⊥ = cc in absurd no
+
+  module _ (l : Label) (e : ExprCore) (field : ℕ) (typed : ExprTyped g.env g.scope e) (whole : ExprTyped g.env g.scope (core.Field l e field)) (at_field : StructFieldTyped g.env l (type_of e) field) where
+    abbrev number : ℕ
+    number = at_field.number
+
+    abbrev field_place : Place → Place
+    field_place to = Member to (field_in g.frame (type_of e) field)
+
+    field_there : struct_field g.frame.core number field ≡ Some at_field.area
+    field_there = ap (λ m. struct_field m number field) (sym set.core) ∙ at_field.found
+
+    -- the struct as it is written out
+    pub record Rows : Type 0 where
+      pub row : WrittenRow
+      pub is : written_out g.frame.core.structs (types.Struct number) ≡ Struct number row
+
+    rows : Rows
+    rows =
+        let f = struct_field_is g.frame.core number field at_field.area field_there in
+        record { row = _; is = (struct_there g.frame.core.structs.words (structs_of g.frame.core.structs) number f.struct_type set.valid.table f.found).is }
+
+    name_is : field_in g.frame (type_of e) field ≡ g.naming.member number field
+    name_is = ap (λ ty. field_in g.frame ty field) at_field.operand ∙ sym (set.members number field)
+
+    abbrev area_out : Written
+    area_out = written_out g.frame.core.structs at_field.area
+
+    field_leads : part (Struct number rows.row) (field ∷ []) ≡ Some area_out
+    field_leads = subst (λ a. part a (field ∷ []) ≡ Some area_out) rows.is (field_part g.frame.core set.valid.table number field at_field.area field_there (written_out g.frame.core.structs (types.Struct number)) [] refl)
+
+    -- the field's place, from that of its struct
+    field_is : (k : ℕ) (path : List ℕ) → Gives g.frame.core g.outcome s e (Ref k path) → (w : CState) (to : Place) → PlaceIs g objects s.areas w (is_constant (type_of e)) to k path → PlaceIs g objects s.areas w (is_constant l.ty) (field_place to) k (path ++ field ∷ [])
+    field_is k path gives w to h =
+        let c0 : Bool = is_constant (type_of e) in
+        let content : h.pointer.content ≡ Struct number rows.row = content_is e typed at_field.constant at_field.region (types.Struct number) at_field.operand k path gives w c0 (reference_to to) h.pointer ∙ rows.is in
+        let leads : part h.pointer.area.ty path ≡ Some (Struct number rows.row) = h.pointer.leads ∙ ap Some content in
+        let inner : target_of.eval_place g.program to w ≡ Ok (located g.program.target g.naming c0 h.pointer.object h.pointer.area.ty path (Struct number rows.row)) =
+            h.is ∙ ap (λ b. let r : Result Lvalue Trouble = Ok (located g.program.target g.naming c0 h.pointer.object h.pointer.area.ty path b) in r) content in
+        let found = fields_located g.program.target g.naming c0 h.pointer.object h.pointer.area.ty path number rows.row field area_out (set.apart number rows.row rows.is)
+            (subst Numbered rows.is (fields_in_order g.frame.core.structs (types.Struct number))) leads field_leads in
+        let named : member_of g.program.target (field_in g.frame (type_of e) field) (located g.program.target g.naming c0 h.pointer.object h.pointer.area.ty path (Struct number rows.row)) ≡ Ok (located g.program.target g.naming c0 h.pointer.object h.pointer.area.ty (path ++ field ∷ []) area_out) =
+            ap (λ m. member_of g.program.target m (located g.program.target g.naming c0 h.pointer.object h.pointer.area.ty path (Struct number rows.row))) name_is ∙ found.1 in
+        let tree : member_tree (members g.naming rows.row number) (field_in g.frame (type_of e) field) ≡ Some (shape g.naming area_out) =
+            member_found c0 (begins g.program.target g.naming h.pointer.object h.pointer.area.ty path) (begins g.program.target g.naming h.pointer.object h.pointer.area.ty (path ++ field ∷ [])) (shape g.naming area_out)
+            (offset_named (metric_of g.program.target) (shape g.naming (Struct number rows.row)) (field_in g.frame (type_of e) field)) (member_tree (members g.naming rows.row number) (field_in g.frame (type_of e) field)) named in
+        let typed_to : target_of.static_place_type g.program w to ≡ Some (Stored c0 (shape g.naming (Struct number rows.row))) = h.type ∙ ap (λ b. Some (Stored c0 (shape g.naming b))) content in
+        let type : target_of.static_place_type g.program w (field_place to) ≡ Some (Stored c0 (shape g.naming area_out)) =
+            ap (option_and_then (of_member (field_in g.frame (type_of e) field))) typed_to ∙ ap (option_map (Stored c0)) tree in
+        subst (λ b. PlaceIs g objects s.areas w b (field_place to) k (path ++ field ∷ [])) (ap is_constant at_field.operand ∙ sym (ap is_constant at_field.type))
+        (deeper w c0 to (field_place to) k path (path ++ field ∷ []) h area_out found.0 (ap (λ r. on_ok r (member_of g.program.target (field_in g.frame (type_of e) field))) inner ∙ named) type refl
+        (set.types (core.Field l e field) at_field.constant at_field.region at_field.area whole at_field.type).type)
+
+    field_tick : {A : Type 0} (go : Value → Part State A) (k : ℕ) (path : List ℕ) (m : ℕ) (z : World) → after (field_behind g.frame.core (type_of e) field (Ref k path) m z s) go ≡ tick (go (Ref k (path ++ field ∷ []))) m z s
+    field_tick go k path zero z = refl
+    field_tick go k path (suc m) z = refl
+
+    pub field_place_follows : PlaceFollows g objects s e → PlaceFollows g objects s (core.Field l e field)
+    field_place_follows follows A post go rest x y from le t related goes n w =
+        let q : PlacePiece = place g.frame e from in
+        subst (λ r. Follows g.frame.skip post x y n r (λ j. running g ((place g.frame (core.Field l e field) from).before ++ rest) j w t)) (sym (after_after (eval g.frame.core g.outcome e n w s) (field_behind g.frame.core (type_of e) field) go))
+        (subst (λ ss. Follows g.frame.skip post x y n (bind (eval g.frame.core g.outcome e) (λ v. bind (field_behind g.frame.core (type_of e) field v) go) n w s) (λ j. running g ss j w t)) (sym (append_assoc q.before (pad ∷ []) rest))
+        (follows A post (λ v. bind (field_behind g.frame.core (type_of e) field v) go) (pad ∷ rest) x y from le t related (record { by = on }) n w))
+      where
+        on : (k : ℕ) (path : List ℕ) (u : CState) → Gives g.frame.core g.outcome s e (Ref k path) → Arrives g objects s from (place g.frame e from).place (place g.frame e from).next (type_of e) t k path u
+            → (m : ℕ) (z : World) → Follows g.frame.skip post x y m (bind (field_behind g.frame.core (type_of e) field (Ref k path)) go m z s) (λ j. running g (pad ∷ rest) j z u)
+        on k path u gives arrives m z =
+            let there : Arrives g objects s from (field_place (place g.frame e from).place) (place g.frame e from).next l.ty t k (path ++ field ∷ []) u =
+                record { grows = arrives.grows; kept = arrives.kept; stands = λ v kept. field_is k path gives v (place g.frame e from).place (arrives.stands v kept) } in
+            subst (λ r. Follows g.frame.skip post x y m r (λ j. running g (pad ∷ rest) j z u)) (sym (field_tick go k path m z))
+            (pays_to g.frame.skip post 1 1 x x y (go (Ref k (path ++ field ∷ []))) z s (omega arith) (omega arith) (λ j. running g (pad ∷ rest) j z u) (λ j. running g rest j z u) (runs_first g 1 pad rest z u u (takes_pad g z u))
+            (λ i. goes.by k (path ++ field ∷ []) u (record { operand = Ref k path; is_given = gives; is = refl }) there i z) m)
+
+    -- as a value, its address
+    pub struct_field_follows : PlaceFollows g objects s e → RawFollows g objects s (core.Field l e field)
+    struct_field_follows follows =
+        reference_follows g set objects s (core.Field l e field) (field_place_follows follows) raw_is (no_number (core.Field l e field) whole at_field.constant at_field.region at_field.area at_field.type)
+      where
+        raw_is : (from : ℕ) → raw g.frame (core.Field l e field) from ≡ lowered.reference (place g.frame (core.Field l e field) from)
+        raw_is from =
+            ap (λ ty. lowered.field_piece g.frame ty field (raw g.frame e from) (place g.frame e from)) at_field.operand
+            ∙ ap (λ ty. lowered.reference (lowered.member_of g.frame ty field (place g.frame e from))) (sym at_field.operand)

@@ -37,12 +37,12 @@ use Rattle.lower_types.specs.Names.{local_name}
 use Rattle.lower_types.specs.Types.{scalar_for, type_for}
 use Rattle.lower_types.proofs.Names.{locals_differ}
 use Rattle.lower_values.specs.Expressions.{raw}
-use Rattle.lower_values.specs.Pieces.{Piece, Standing, Exact, Same, Near, pad, paid, inline, named, taken, once, often, is_atom, is_read, stays, is_exact}
+use Rattle.lower_values.specs.Pieces.{Piece, Standing, Exact, Same, Near, pad, paid, inline, named, taken, once, often, atom, is_atom, is_read, stays, is_exact, has_number}
 use Rattle.value_refinement.specs.Kept.{Kept}
 use Rattle.value_refinement.specs.Laws.{Stage, Goes, RawFollows, owing, spare, running}
 use Rattle.value_refinement.specs.Related.{Related}
 use Rattle.value_refinement.specs.Settings.{Setting, Set, IsOld}
-use Rattle.value_refinement.specs.Standing.{HasScalar, Stands, ExactlyIs}
+use Rattle.value_refinement.specs.Standing.{HasScalar, IsNumber, Stands, ExactlyIs}
 use Rattle.value_refinement.specs.Values.{Comes, StandsFor, Simple}
 use Rattle.value_refinement.proofs.Keeping.{kept_twice, kept_same, kept_declared}
 use Rattle.value_refinement.proofs.OperandValues.{exact_held}
@@ -117,11 +117,25 @@ payable_often Same false e h simple = omega arith
 payable_often Near true e h simple = omega arith
 payable_often Near false e h simple = omega arith
 
+payable_atom : (st : Standing) (owed : Bool) (e : Expr) → (has_number st && (is_atom e && not owed)) ≡ false → Simple st owed e → 1 ≤ 16 * owing owed + (if owed then 0 else if is_exact st then 0 else 8)
+payable_atom Exact true e h simple = omega arith
+payable_atom Exact false e h simple = let q : (is_atom e && true) ≡ true = ap (λ b. b && true) simple in let no : ⊥ = cc in absurd no
+payable_atom Same true e h simple = omega arith
+payable_atom Same false e h simple = omega arith
+payable_atom Near true e h simple = omega arith
+payable_atom Near false e h simple = omega arith
+
 module _ (g : Setting) where
   pub exactly : (u : CState) (k : CScalar) (st : Standing) (e : Expr) (n : ℤ) → is_exact st ≡ true → Stands st g.program u k e n → ExactlyIs g.program u k e n
   exactly u k Exact e n exact h = h
   exactly u k Same e n exact h = let no : ⊥ = cc in absurd no
   exactly u k Near e n exact h = let no : ⊥ = cc in absurd no
+
+  -- by its number
+  pub by_number : (u : CState) (k : CScalar) (st : Standing) (e : Expr) (n : ℤ) → has_number st ≡ true → IsTrue (can_hold (table_of g.program.target) (Scalar k) n) → Stands st g.program u k e n → IsNumber g.program u e n
+  by_number u k Exact e n has holds h = let q = exact_held g.program u k e n h holds in (q.kind, q.gives)
+  by_number u k Same e n has holds h = h
+  by_number u k Near e n has holds h = let no : ⊥ = cc in absurd no
 
   module _ {A : Type 0} (s : State) (post : A → State → Control (Option CValue) → CState → Type 0) (part : Part State A) (rest : List Stmt) (x y spared : ℕ) (u : CState) (w : World) where
     -- a step that is owed is paid by a pad
@@ -277,3 +291,44 @@ module _ (g : Setting) (set : Set g) (objects : Map) (s : State) where
     pub taken_follows : (again : Bool) → OperandFollows part given ty (λ from. taken again (ctype.Value kind) (p from))
     taken_follows true = extended (λ from. often (ctype.Value kind) (p from)) (λ from. extra_often (p from)) (λ from. before_often (p from)) often_extends
     taken_follows false = extended (λ from. once (ctype.Value kind) (p from)) (λ from. extra_once (p from)) (λ from. before_once (p from)) once_extends
+
+    -- ---- an index or a bound, of which the number alone matters
+
+    abbrev extra_atom : Piece → List Stmt
+    extra_atom q = if has_number q.standing && stays q then [] else Const (local_name q.next) (ctype.Value kind) q.value ∷ []
+
+    pub record Indexed (from : ℕ) (q : Piece) (t : CState) (n : ℤ) (u : CState) : Type 0 where
+      pub grows : from ≤ q.next
+      pub kept : Kept g.program from t u
+      pub stands : (w : CState) → Kept g.program q.next u w → IsNumber g.program w q.value n
+
+    abbrev pub OnIndex : {A : Type 0} → (post : A → State → Control (Option CValue) → CState → Type 0) → (go : Value → Part State A) → (rest : List Stmt) → (x y from : ℕ) → (q : Piece) → CState → Type 0
+    OnIndex post go rest x y from q t =
+        (n : ℤ) (u : CState) → given (source.Num n) → Indexed from q t n u → (m : ℕ) (w : World) → Follows g.frame.skip post x y m (go (source.Num n) m w s) (λ j. running g rest j w u)
+
+    -- named, it stands exactly
+    on_named : {A : Type 0} (post : A → State → Control (Option CValue) → CState → Type 0) (go : Value → Part State A) (rest : List Stmt) (x y from : ℕ) (t : CState)
+        → OnIndex post go rest x y from (named (ctype.Value kind) (p from)) t → OnNumber post go rest x y from (named (ctype.Value kind) (p from)) given ty t
+    on_named post go rest x y from t onward n u gives stood m w =
+        onward n u gives (record { grows = stood.grows; kept = stood.kept; stands = λ z kept. by_number g z kind Exact (named (ctype.Value kind) (p from)).value n refl (holds n gives) (stood.stands z kept) }) m w
+
+    pub atom_follows : (A : Type 0) (post : A → State → Control (Option CValue) → CState → Type 0) (go : Value → Part State A) (rest : List Stmt) (x y from : ℕ) → g.first ≤ from
+        → (t : CState) → Related g objects s t → OnIndex post go rest x y from (atom (ctype.Value kind) (p from)) t
+        → (n : ℕ) (w : World) → Follows g.frame.skip post x y n (bind part go n w s) (λ j. running g ((atom (ctype.Value kind) (p from)).before ++ rest) j w t)
+    atom_follows A post go rest x y from le t related onward n w = by_case (has_number (p from).standing && stays (p from)) refl onward where
+      by_case : (b : Bool) → (has_number (p from).standing && stays (p from)) ≡ b → OnIndex post go rest x y from (if b then p from else named (ctype.Value kind) (p from)) t
+          → Follows g.frame.skip post x y n (bind part go n w s) (λ j. running g ((if b then p from else named (ctype.Value kind) (p from)).before ++ rest) j w t)
+      by_case true e on = follows A post go rest x y from le t related (only_numbers post go rest x y from t on_itself) n w where
+        on_itself : (i : ℤ) (u : CState) → given (source.Num i) → Comes g objects s from (p from) ty t (source.Num i) u → (m : ℕ) (z : World) → Follows g.frame.skip post (x + spare (p from)) y m (ticks (owing (p from).owed) (go (source.Num i)) m z s) (λ j. running g rest j z u)
+        on_itself i u gives comes m z =
+            unpadded g s post (go (source.Num i)) rest x y (spare (p from)) u z (p from).owed (last_free (has_number (p from).standing) (is_atom (p from).value) (p from).owed e)
+            (λ k. on i u gives (record {
+              grows = comes.grows;
+              kept = comes.kept;
+              stands = λ v kept. by_number g v kind (p from).standing (p from).value i (first_holds (has_number (p from).standing) (stays (p from)) e) (holds i gives) (comes.stands v kept).1;
+            }) k z) m
+      by_case false e on =
+          subst (λ l. Follows g.frame.skip post x y n (bind part go n w s) (λ j. running g l j w t)) (sym (append_assoc (p from).before (Const (local_name (p from).next) (ctype.Value kind) (p from).value ∷ []) rest))
+          (follows A post go (Const (local_name (p from).next) (ctype.Value kind) (p from).value ∷ rest) x y from le t related
+          (only_numbers post go (Const (local_name (p from).next) (ctype.Value kind) (p from).value ∷ rest) x y from t
+          (by_name from (payable_atom (p from).standing (p from).owed (p from).value e) A post go rest x y t (on_named post go rest x y from t on))) n w)

@@ -19,7 +19,7 @@ use Rattle.c_ast.specs.declared.CType.TheVariants as ctype
 use Rattle.c_ast.specs.Conversions.{can_hold}
 use Rattle.c_ast.specs.Syntax.{Expr, Stmt}
 use Rattle.c_ast.specs.Targets.{table_of}
-use Rattle.c_meaning.specs.State.{CState}
+use Rattle.c_meaning.specs.State.{Program, CState}
 use Rattle.c_meaning.specs.Values.{CValue}
 use Rattle.area_objects.specs.Both.{Map}
 use Rattle.lower_types.specs.Types.{scalar_for}
@@ -37,10 +37,14 @@ use Rattle.value_refinement.proofs.NumberForms.{answer_follows}
 use Rattle.value_refinement.proofs.Operands.{Onward, PieceFollows, OperandFollows, Stood}
 use Rattle.value_refinement.proofs.Standings.{related_on}
 
-inexact_simple : (st : Standing) (owed : Bool) (e : Expr) → is_exact st ≡ false → Simple st owed e
-inexact_simple Exact owed e h = let no : ⊥ = cc in absurd no
-inexact_simple Same owed e h = tt
-inexact_simple Near owed e h = tt
+pub near_simple : (p : Program) (w : CState) (owed : Bool) (e : Expr) → Simple p w Near owed e
+near_simple p w true e = tt
+near_simple p w false e = tt
+
+owed_simple : (p : Program) (w : CState) (st : Standing) (e : Expr) → Simple p w st true e
+owed_simple p w Exact e = tt
+owed_simple p w Same e = tt
+owed_simple p w Near e = tt
 
 module _ (g : Setting) (set : Set g) (objects : Map) (s : State) where
   -- of pieces that are the same
@@ -65,6 +69,7 @@ module _ (g : Setting) (set : Set g) (objects : Map) (s : State) where
     module _ (l : Label) (small : Numbered l.checks) (few : length l.checks ≤ 4) (guard : Expr → SiteKind → Expr) (is_settled : Expr → SiteKind → Bool) (answer : ℤ → Answer)
         (tells : (w : CState) (e : Expr) (a : ℤ) → given (Num a) → ExactlyIs g.program w (scalar_for g.frame.table ty) e a → GuardsTell g.program w (guard e) (is_settled e) (answer a) l.checks)
         (stands : (w : CState) (e : Expr) (a v : ℤ) → given (Num a) → ExactlyIs g.program w (scalar_for g.frame.table ty) e a → answer a ≡ Ok v → Stands st g.program w (scalar_for g.frame.table to) (value e) v)
+        (simple : (w : CState) (e : Expr) (a : ℤ) → given (Num a) → ExactlyIs g.program w (scalar_for g.frame.table ty) e a → (owed : Bool) → Simple g.program w st owed (value e))
         (gives : (a v : ℤ) → given (Num a) → answer a ≡ Ok v → result (Num v)) where
       abbrev row : Expr → List Stmt
       row e = tests g.frame (guard e) (is_settled e) l.checks
@@ -82,7 +87,7 @@ module _ (g : Setting) (set : Set g) (objects : Map) (s : State) where
           comes a u is stood v e = record {
             grows = stood.grows;
             kept = stood.kept;
-            stands = λ z kept. (inexact_simple st (are_none (row (q from).value)) (value (q from).value) inexact, stands z (q from).value a v is (stood.stands z kept) e);
+            stands = λ z kept. (simple z (q from).value a is (stood.stands z kept) (are_none (row (q from).value)), stands z (q from).value a v is (stood.stands z kept) e);
           }
 
           on : (a : ℤ) (u : CState) → given (Num a) → Stood g set objects s from (q from) ty t a u → (m : ℕ) (z : World)
@@ -115,7 +120,7 @@ module _ (g : Setting) (set : Set g) (objects : Map) (s : State) where
           comes a u is stood = record {
             grows = stood.grows;
             kept = stood.kept;
-            stands = λ z kept. (inexact_simple st true (value (q from).value) inexact, stands z (q from).value a is (stood.stands z kept));
+            stands = λ z kept. (owed_simple g.program z st (value (q from).value), stands z (q from).value a is (stood.stands z kept));
           }
 
           on : (a : ℤ) (u : CState) → given (Num a) → Stood g set objects s from (q from) ty t a u → (m : ℕ) (z : World) → Follows g.frame.skip post x y m (bind (next (Num a)) go m z s) (λ j. running g rest j z u)
@@ -127,13 +132,19 @@ module _ (g : Setting) (set : Set g) (objects : Map) (s : State) where
   -- ---- two operands
 
   module _ (left right : Part State Value) (left_given right_given : Value → Type 0) (left_type right_type : ValueType) (p q : ℕ → Piece) (left_follows : OperandFollows g set objects s left left_given left_type p) (right_follows : OperandFollows g set objects s right right_given right_type q)
-      (result : Value → Type 0) (to : ValueType) (st : Standing) (inexact : is_exact st ≡ false) (value : Expr → Expr → Expr)
+      (result : Value → Type 0) (to : ValueType) (st : Standing) (near : st ≡ Near) (value : Expr → Expr → Expr)
       (l : Label) (small : Numbered l.checks) (few : length l.checks ≤ 4) (guard : Expr → Expr → SiteKind → Expr) (is_settled : Expr → Expr → SiteKind → Bool) (answer : ℤ → ℤ → Answer)
       (tells : (w : CState) (d e : Expr) (a b : ℤ) → left_given (Num a) → right_given (Num b) → ExactlyIs g.program w (scalar_for g.frame.table left_type) d a → ExactlyIs g.program w (scalar_for g.frame.table right_type) e b
           → GuardsTell g.program w (guard d e) (is_settled d e) (answer a b) l.checks)
       (stands : (w : CState) (d e : Expr) (a b v : ℤ) → left_given (Num a) → right_given (Num b) → ExactlyIs g.program w (scalar_for g.frame.table left_type) d a → ExactlyIs g.program w (scalar_for g.frame.table right_type) e b
           → answer a b ≡ Ok v → Stands st g.program w (scalar_for g.frame.table to) (value d e) v)
       (gives : (a b v : ℤ) → left_given (Num a) → right_given (Num b) → answer a b ≡ Ok v → result (Num v)) where
+    inexact : is_exact st ≡ false
+    inexact = ap is_exact near
+
+    simple : (z : CState) (owed : Bool) (e : Expr) → Simple g.program z st owed e
+    simple z owed e = subst (λ k. Simple g.program z k owed e) (sym near) (near_simple g.program z owed e)
+
     abbrev second : ℕ → Piece
     second from = q (p from).next
 
@@ -166,7 +177,7 @@ module _ (g : Setting) (set : Set g) (objects : Map) (s : State) where
           kept = kept_twice g.program from (p from).next t u u2 stood.grows stood.kept stood2.kept;
           stands = λ z kept.
               (
-                inexact_simple st (are_none (pair_row from)) (value (p from).value (second from).value) inexact,
+                simple z (are_none (pair_row from)) (value (p from).value (second from).value),
                 stands z (p from).value (second from).value a b v is is2 (stood.stands z (kept_twice g.program (p from).next (second from).next u u2 z stood2.grows stood2.kept kept)) (stood2.stands z kept) e,
               );
         }

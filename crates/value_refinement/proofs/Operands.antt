@@ -1,7 +1,7 @@
 -- Operands: a piece that is named, or taken as it is, follows as the piece does, is owed nothing, and stands exactly.
-use Rattle.std.proofs.Common.{◌≡◌, ◌≢◌, ℕ, zero, suc, ◌+◌, ◌*◌, ◌<◌, ◌≤◌, ℤ, Bool, true, false, List, [], ◌∷◌, ◌++◌, Option, Some, None, Result, Ok, Err, refl, sym, ◌∙◌, ap, subst, arith}
+use Rattle.std.proofs.Common.{◌≡◌, ◌≢◌, ℕ, zero, suc, ◌+◌, ◌*◌, ◌<◌, ◌≤◌, ℤ, pos, Bool, true, false, List, [], ◌∷◌, ◌++◌, Option, Some, None, Result, Ok, Err, refl, sym, ◌∙◌, ap, subst, arith}
 use Rattle.std.proofs.lemmas.List.{append_assoc, append-nil}
-use Rattle.std.specs.Prelude.{if◌then◌else◌, not, ◌&&◌, IsTrue}
+use Rattle.std.specs.Prelude.{if◌then◌else◌, not, ◌&&◌, IsTrue, IsSome}
 use Rattle.iv_words.proofs.Equality.{same_self}
 use Rattle.step_semantics.specs.Control.{Control}
 use Rattle.step_semantics.specs.Follows.{Follows}
@@ -18,16 +18,19 @@ use Rattle.core_meaning.specs.State.{State}
 use Rattle.core_meaning.specs.Values as source
 use Rattle.core_meaning.specs.Values.{Value}
 use Rattle.c_ast.specs.declared.CKind.{CKind}
-use Rattle.c_ast.specs.declared.CKind.TheVariants.{Scalar}
+use Rattle.c_ast.specs.declared.CKind.TheVariants.{Scalar, Arith as Computed}
 use Rattle.c_ast.specs.declared.CScalar.{CScalar}
 use Rattle.c_ast.specs.declared.CType.{CType}
 use Rattle.c_ast.specs.declared.CType.TheVariants as ctype
-use Rattle.c_ast.specs.Conversions.{can_hold}
+use Rattle.c_ast.specs.declared.Arith.{Arith}
+use Rattle.c_ast.specs.Conversions.{can_hold, constant_type}
+use Rattle.c_ast.specs.StaticTypes.{Arithmetic}
+use Rattle.std.specs.Option.{option_map}
 use Rattle.c_ast.specs.Syntax.{Expr, Number, Read, Address, Unary, Binary, Cast, Cond, Var, Stmt, Const}
 use Rattle.c_ast.specs.Targets.{table_of}
 use Rattle.c_meaning.specs.Expressions as c
 use Rattle.c_meaning.specs.Scopes.{value_in, name_value}
-use Rattle.c_meaning.specs.State.{CState, Slot, Holding, declare}
+use Rattle.c_meaning.specs.State.{Program, CState, Slot, Holding, declare}
 use Rattle.c_ast.specs.Names as table
 use Rattle.c_meaning.specs.Values.{CValue, Num, as_assigned, typed}
 use Rattle.c_meaning.proofs.HeldNumbers.{held_as_assigned}
@@ -43,7 +46,7 @@ use Rattle.value_refinement.specs.Laws.{Stage, Goes, RawFollows, owing, spare, r
 use Rattle.value_refinement.specs.Related.{Related}
 use Rattle.value_refinement.specs.Settings.{Setting, Set, IsOld}
 use Rattle.value_refinement.specs.Standing.{HasScalar, IsNumber, Stands, ExactlyIs}
-use Rattle.value_refinement.specs.Values.{Comes, StandsFor, Simple}
+use Rattle.value_refinement.specs.Values.{Comes, StandsFor, Simple, HasArithmetic}
 use Rattle.value_refinement.proofs.Keeping.{kept_twice, kept_same, kept_declared}
 use Rattle.value_refinement.proofs.OperandValues.{exact_held}
 use Rattle.value_refinement.proofs.Running.{runs_first, takes_pad, takes_const}
@@ -101,35 +104,57 @@ atom_is_read (Cast to e) h = h
 atom_is_read (Cond c a b) h = h
 
 -- what is named can pay for its declaration
-payable_once : (st : Standing) (owed : Bool) (e : Expr) → (is_exact st && is_read e) ≡ false → Simple st owed e → 1 ≤ 16 * owing owed + (if owed then 0 else if is_exact st then 0 else 8)
-payable_once Exact true e h simple = omega arith
-payable_once Exact false e h simple = let q : is_read e ≡ true = atom_is_read e simple in let no : ⊥ = cc in absurd no
-payable_once Same true e h simple = omega arith
-payable_once Same false e h simple = omega arith
-payable_once Near true e h simple = omega arith
-payable_once Near false e h simple = omega arith
+payable_once : (p : Program) (w : CState) (st : Standing) (owed : Bool) (e : Expr) → (is_exact st && is_read e) ≡ false → Simple p w st owed e → 1 ≤ 16 * owing owed + (if owed then 0 else if is_exact st then 0 else 8)
+payable_once p w Exact true e h simple = omega arith
+payable_once p w Exact false e h simple = let q : is_read e ≡ true = atom_is_read e simple in let no : ⊥ = cc in absurd no
+payable_once p w Same true e h simple = omega arith
+payable_once p w Same false e h simple = omega arith
+payable_once p w Near true e h simple = omega arith
+payable_once p w Near false e h simple = omega arith
 
-payable_often : (st : Standing) (owed : Bool) (e : Expr) → (is_exact st && (is_atom e && not owed)) ≡ false → Simple st owed e → 1 ≤ 16 * owing owed + (if owed then 0 else if is_exact st then 0 else 8)
-payable_often Exact true e h simple = omega arith
-payable_often Exact false e h simple = let q : (is_atom e && true) ≡ true = ap (λ b. b && true) simple in let no : ⊥ = cc in absurd no
-payable_often Same true e h simple = omega arith
-payable_often Same false e h simple = omega arith
-payable_often Near true e h simple = omega arith
-payable_often Near false e h simple = omega arith
+payable_often : (p : Program) (w : CState) (st : Standing) (owed : Bool) (e : Expr) → (is_exact st && (is_atom e && not owed)) ≡ false → Simple p w st owed e → 1 ≤ 16 * owing owed + (if owed then 0 else if is_exact st then 0 else 8)
+payable_often p w Exact true e h simple = omega arith
+payable_often p w Exact false e h simple = let q : (is_atom e && true) ≡ true = ap (λ b. b && true) simple in let no : ⊥ = cc in absurd no
+payable_often p w Same true e h simple = omega arith
+payable_often p w Same false e h simple = omega arith
+payable_often p w Near true e h simple = omega arith
+payable_often p w Near false e h simple = omega arith
 
-payable_atom : (st : Standing) (owed : Bool) (e : Expr) → (has_number st && (is_atom e && not owed)) ≡ false → Simple st owed e → 1 ≤ 16 * owing owed + (if owed then 0 else if is_exact st then 0 else 8)
-payable_atom Exact true e h simple = omega arith
-payable_atom Exact false e h simple = let q : (is_atom e && true) ≡ true = ap (λ b. b && true) simple in let no : ⊥ = cc in absurd no
-payable_atom Same true e h simple = omega arith
-payable_atom Same false e h simple = omega arith
-payable_atom Near true e h simple = omega arith
-payable_atom Near false e h simple = omega arith
+payable_atom : (p : Program) (w : CState) (st : Standing) (owed : Bool) (e : Expr) → (has_number st && (is_atom e && not owed)) ≡ false → Simple p w st owed e → 1 ≤ 16 * owing owed + (if owed then 0 else if is_exact st then 0 else 8)
+payable_atom p w Exact true e h simple = omega arith
+payable_atom p w Exact false e h simple = let q : (is_atom e && true) ≡ true = ap (λ b. b && true) simple in let no : ⊥ = cc in absurd no
+payable_atom p w Same true e h simple = omega arith
+payable_atom p w Same false e h simple = omega arith
+payable_atom p w Near true e h simple = omega arith
+payable_atom p w Near false e h simple = omega arith
 
 module _ (g : Setting) where
   pub exactly : (u : CState) (k : CScalar) (st : Standing) (e : Expr) (n : ℤ) → is_exact st ≡ true → Stands st g.program u k e n → ExactlyIs g.program u k e n
   exactly u k Exact e n exact h = h
   exactly u k Same e n exact h = let no : ⊥ = cc in absurd no
   exactly u k Near e n exact h = let no : ⊥ = cc in absurd no
+
+  -- what stands exactly has a type
+  pub typed_exactly : (u : CState) (k : CScalar) (e : Expr) (n : ℤ) → ExactlyIs g.program u k e n → HasArithmetic g.program u e
+  typed_exactly u k (Number m suffix) n h = typed_constant (constant_type g.program.target suffix m) refl (some_type h) where
+    some_type : (pos m ≡ n) × IsSome (constant_type g.program.target suffix m) → IsSome (constant_type g.program.target suffix m)
+    some_type both = both.1
+
+    typed_constant : (found : Option Arith) → constant_type g.program.target suffix m ≡ found → IsSome found → HasArithmetic g.program u (Number m suffix)
+    typed_constant (Some a) is some = record { kind = Computed a; type = ap (option_map (λ b. Arithmetic (Computed b))) is }
+    typed_constant None is some = let no : ⊥ = cc in absurd no
+  typed_exactly u k (Read place) n h = record { kind = Scalar k; type = h.type }
+  typed_exactly u k (Address place) n h = record { kind = Scalar k; type = h.type }
+  typed_exactly u k (Unary op e) n h = record { kind = Scalar k; type = h.type }
+  typed_exactly u k (Binary op a b) n h = record { kind = Scalar k; type = h.type }
+  typed_exactly u k (Cast to e) n h = record { kind = Scalar k; type = h.type }
+  typed_exactly u k (Cond c a b) n h = record { kind = Scalar k; type = h.type }
+
+  typed_number : (u : CState) (k : CScalar) (st : Standing) (owed : Bool) (e : Expr) (n : ℤ) → has_number st ≡ true → owed ≡ false → Simple g.program u st owed e → Stands st g.program u k e n → HasArithmetic g.program u e
+  typed_number u k Exact owed e n has free simple h = typed_exactly u k e n h
+  typed_number u k Same false e n has free simple h = simple
+  typed_number u k Same true e n has free simple h = let no : ⊥ = cc in absurd no
+  typed_number u k Near owed e n has free simple h = let no : ⊥ = cc in absurd no
 
   -- by its number
   pub by_number : (u : CState) (k : CScalar) (st : Standing) (e : Expr) (n : ℤ) → has_number st ≡ true → IsTrue (can_hold (table_of g.program.target) (Scalar k) n) → Stands st g.program u k e n → IsNumber g.program u e n
@@ -221,10 +246,10 @@ module _ (g : Setting) (set : Set g) (objects : Map) (s : State) where
       declared = Const (local_name at.next) (ctype.Value kind) at.value
 
       -- by a declaration, where it can be paid
-      by_name : (Simple at.standing at.owed at.value → 1 ≤ 16 * owing at.owed + spare at) → Extends (named (ctype.Value kind) at) (declared ∷ []) from
+      by_name : ((z : CState) → Simple g.program z at.standing at.owed at.value → 1 ≤ 16 * owing at.owed + spare at) → Extends (named (ctype.Value kind) at) (declared ∷ []) from
       by_name pays A post go rest x y t onward n u gives comes m w =
           let v : CValue = Num (Scalar kind) n in
-          let stands : Simple at.standing at.owed at.value × Stands at.standing g.program u kind at.value n = comes.stands u (kept_same g.program at.next u) in
+          let stands : Simple g.program u at.standing at.owed at.value × Stands at.standing g.program u kind at.value n = comes.stands u (kept_same g.program at.next u) in
           let a = stands_assigned g u kind at.standing at.value n (holds n gives) stands.1 in
           let u2 : CState = declare (local_name at.next) v u in
           let stood : Stood from (named (ctype.Value kind) at) ty t n u2 = record {
@@ -232,7 +257,7 @@ module _ (g : Setting) (set : Set g) (objects : Map) (s : State) where
             kept = kept_twice g.program from from t u u2 (omega arith) comes.kept (kept_declared g.program from at.next v u comes.grows);
             stands = λ z kept. name_stands g at.next kind n u z kept;
           } in
-          pays_to g.frame.skip post 1 (owing at.owed) (x + spare at) x y (go (source.Num n)) w s (owes_one at.owed) (omega (arith, pays stands.0)) (λ j. running g (declared ∷ rest) j w u) (λ j. running g rest j w u2)
+          pays_to g.frame.skip post 1 (owing at.owed) (x + spare at) x y (go (source.Num n)) w s (owes_one at.owed) (omega (arith, pays u stands.0)) (λ j. running g (declared ∷ rest) j w u) (λ j. running g rest j w u2)
           (runs_first g 1 declared rest w u u2 (takes_const g w u (local_name at.next) (ctype.Value kind) at.value a.0 v a.1 a.2)) (λ i. onward n u2 gives stood i w) m
 
       stood_as_is : (q : Piece) → q.value ≡ at.value → q.next ≡ at.next → is_exact at.standing ≡ true → (t : CState) (n : ℤ) (u : CState) → Comes g objects s from at ty t (source.Num n) u → Stood from q ty t n u
@@ -267,14 +292,14 @@ module _ (g : Setting) (set : Set g) (objects : Map) (s : State) where
       go : (b : Bool) → (is_exact (p from).standing && is_read (p from).value) ≡ b
           → Extends (if b then inline (p from) else named (ctype.Value kind) (p from)) (if b then paid (p from).owed else Const (local_name (p from).next) (ctype.Value kind) (p from).value ∷ []) from
       go true e = in_line from (first_holds (is_exact (p from).standing) (is_read (p from).value) e)
-      go false e = by_name from (payable_once (p from).standing (p from).owed (p from).value e)
+      go false e = by_name from (λ z. payable_once g.program z (p from).standing (p from).owed (p from).value e)
 
     often_extends : (from : ℕ) → Extends (often (ctype.Value kind) (p from)) (extra_often (p from)) from
     often_extends from = go (is_exact (p from).standing && stays (p from)) refl where
       go : (b : Bool) → (is_exact (p from).standing && stays (p from)) ≡ b
           → Extends (if b then p from else named (ctype.Value kind) (p from)) (if b then [] else Const (local_name (p from).next) (ctype.Value kind) (p from).value ∷ []) from
       go true e = as_it_is from (first_holds (is_exact (p from).standing) (stays (p from)) e) (last_free (is_exact (p from).standing) (is_atom (p from).value) (p from).owed e)
-      go false e = by_name from (payable_often (p from).standing (p from).owed (p from).value e)
+      go false e = by_name from (λ z. payable_often g.program z (p from).standing (p from).owed (p from).value e)
 
     before_once : (q : Piece) → (once (ctype.Value kind) q).before ≡ q.before ++ extra_once q
     before_once q = go (is_exact q.standing && is_read q.value) where
@@ -300,7 +325,7 @@ module _ (g : Setting) (set : Set g) (objects : Map) (s : State) where
     pub record Indexed (from : ℕ) (q : Piece) (t : CState) (n : ℤ) (u : CState) : Type 0 where
       pub grows : from ≤ q.next
       pub kept : Kept g.program from t u
-      pub stands : (w : CState) → Kept g.program q.next u w → IsNumber g.program w q.value n
+      pub stands : (w : CState) → Kept g.program q.next u w → IsNumber g.program w q.value n × HasArithmetic g.program w q.value
 
     abbrev pub OnIndex : {A : Type 0} → (post : A → State → Control (Option CValue) → CState → Type 0) → (go : Value → Part State A) → (rest : List Stmt) → (x y from : ℕ) → (q : Piece) → CState → Type 0
     OnIndex post go rest x y from q t =
@@ -310,7 +335,7 @@ module _ (g : Setting) (set : Set g) (objects : Map) (s : State) where
     on_named : {A : Type 0} (post : A → State → Control (Option CValue) → CState → Type 0) (go : Value → Part State A) (rest : List Stmt) (x y from : ℕ) (t : CState)
         → OnIndex post go rest x y from (named (ctype.Value kind) (p from)) t → OnNumber post go rest x y from (named (ctype.Value kind) (p from)) given ty t
     on_named post go rest x y from t onward n u gives stood m w =
-        onward n u gives (record { grows = stood.grows; kept = stood.kept; stands = λ z kept. by_number g z kind Exact (named (ctype.Value kind) (p from)).value n refl (holds n gives) (stood.stands z kept) }) m w
+        onward n u gives (record { grows = stood.grows; kept = stood.kept; stands = λ z kept. (by_number g z kind Exact (named (ctype.Value kind) (p from)).value n refl (holds n gives) (stood.stands z kept), typed_exactly g z kind (named (ctype.Value kind) (p from)).value n (stood.stands z kept)) }) m w
 
     pub atom_follows : (A : Type 0) (post : A → State → Control (Option CValue) → CState → Type 0) (go : Value → Part State A) (rest : List Stmt) (x y from : ℕ) → g.first ≤ from
         → (t : CState) → Related g objects s t → OnIndex post go rest x y from (atom (ctype.Value kind) (p from)) t
@@ -325,10 +350,15 @@ module _ (g : Setting) (set : Set g) (objects : Map) (s : State) where
             (λ k. on i u gives (record {
               grows = comes.grows;
               kept = comes.kept;
-              stands = λ v kept. by_number g v kind (p from).standing (p from).value i (first_holds (has_number (p from).standing) (stays (p from)) e) (holds i gives) (comes.stands v kept).1;
+              stands = λ v kept.
+                  (
+                    by_number g v kind (p from).standing (p from).value i (first_holds (has_number (p from).standing) (stays (p from)) e) (holds i gives) (comes.stands v kept).1,
+                    typed_number g v kind (p from).standing (p from).owed (p from).value i (first_holds (has_number (p from).standing) (stays (p from)) e)
+                    (last_free (has_number (p from).standing) (is_atom (p from).value) (p from).owed e) (comes.stands v kept).0 (comes.stands v kept).1,
+                  );
             }) k z) m
       by_case false e on =
           subst (λ l. Follows g.frame.skip post x y n (bind part go n w s) (λ j. running g l j w t)) (sym (append_assoc (p from).before (Const (local_name (p from).next) (ctype.Value kind) (p from).value ∷ []) rest))
           (follows A post go (Const (local_name (p from).next) (ctype.Value kind) (p from).value ∷ rest) x y from le t related
           (only_numbers post go (Const (local_name (p from).next) (ctype.Value kind) (p from).value ∷ rest) x y from t
-          (by_name from (payable_atom (p from).standing (p from).owed (p from).value e) A post go rest x y t (on_named post go rest x y from t on))) n w)
+          (by_name from (λ z. payable_atom g.program z (p from).standing (p from).owed (p from).value e) A post go rest x y t (on_named post go rest x y from t on))) n w)

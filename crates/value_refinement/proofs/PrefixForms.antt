@@ -51,7 +51,7 @@ use Rattle.value_refinement.specs.Standing.{ExactlyIs, IsNumber, Converts}
 use Rattle.value_refinement.proofs.BitWords.{Laid, laid_out}
 use Rattle.value_refinement.proofs.FieldValues.{field_in_word, fields_answer}
 use Rattle.value_refinement.proofs.Given.{operand_follows, of_kind, many_checks, first_checks}
-use Rattle.value_refinement.proofs.NumberParts.{same_pieces, same_parts, checked_follows, stepped_follows}
+use Rattle.value_refinement.proofs.NumberParts.{near_simple, same_pieces, same_parts, checked_follows, stepped_follows}
 use Rattle.value_refinement.proofs.Operands.{PieceFollows, as_raw}
 use Rattle.value_refinement.proofs.Operators.{operators_answer}
 use Rattle.value_refinement.proofs.Truths.{negations_answer}
@@ -117,7 +117,7 @@ module _ (g : Setting) (set : Set g) (objects : Map) (s : State) (stage : Stage 
         (checked_follows g set objects s (eval g.frame.core g.outcome e) (Gives g.frame.core g.outcome s e) (type_of e) (λ from. taken (has_checks l) (type_in g.frame (type_of e)) (raw g.frame e from))
         (operand_follows g set objects s stage e typed (ap reference_of is_for.is) follows (has_checks l)) (OfNumber (prefix_operation o (type_of e)) (Gives g.frame.core g.outcome s e)) l.ty Near refl (λ d. computed kind o d d)
         l small (subst (λ n. n ≤ 4) (sym (many_checks l.checks (map site_of (checks o kind)) of_sites)) few) (λ d. guard_in g.frame kind o d d) (λ d. settled kind o d) answer
-        (λ w d a gives exact. (tells w d a gives exact).0) stands
+        (λ w d a gives exact. (tells w d a gives exact).0) stands (λ w d a gives exact owed. near_simple g.program w owed (computed kind o d d))
         (λ a v gives answers. record { answer = answer; has = ap (prefix_operation o) is_for.is; operand = a; is_given = gives; number = v; answers = answers; is = refl })))
 
   -- `-e`

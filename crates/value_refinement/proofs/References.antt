@@ -19,7 +19,9 @@ use Rattle.area_types.specs.declared.region.Region.{Region}
 use Rattle.core_tree.specs.Environments.{struct_field}
 use Rattle.core_tree.specs.Syntax as core
 use Rattle.core_tree.specs.Syntax.{ExprCore, Label, type_of}
-use Rattle.core_tree.specs.TypedExpressions.{ExprTyped, StructFieldTyped, DerefTyped}
+use Rattle.core_tree.specs.TypedExpressions.{ExprTyped, StructFieldTyped, ElementTyped, DerefTyped}
+use Rattle.core_tree.specs.Types.{is_value}
+use Rattle.index_types.specs.Indices.{is_index}
 use Rattle.core_meaning.specs.Areas.{Area as Held, Areas, Live, number_in, number_at}
 use Rattle.core_meaning.specs.Areas as areas_of
 use Rattle.core_meaning.specs.Checks.{on_some, on_reference}
@@ -39,12 +41,14 @@ use Rattle.c_meaning.specs.State.{CState}
 use Rattle.c_meaning.specs.Values as target
 use Rattle.c_meaning.specs.Values.{CValue, Trouble, on_ok}
 use Rattle.region_soundness.specs.Fitting.{ValueFits}
+use Rattle.region_soundness.proofs.Forms.{index_within}
 use Rattle.region_soundness.proofs.Structs.{struct_there, struct_field_is, field_part}
 use Rattle.area_objects.specs.Both.{Map, LiveIn}
 use Rattle.area_objects.specs.Located.{Numbered, IsType, begins, located}
 use Rattle.area_objects.specs.Shapes.{shape, members, base_of}
-use Rattle.area_objects.proofs.Located.{fields_in_order, fields_located, parts_pointed_to}
+use Rattle.area_objects.proofs.Located.{fields_in_order, fields_located, elements_located, parts_pointed_to}
 use Rattle.area_objects.proofs.Outside.{places_read}
+use Rattle.lower_types.specs.Names.{elements_name}
 use Rattle.lower_types.specs.Types.{scalar_for}
 use Rattle.lower_values.specs.Expressions.{raw, place, field_in, reference_to}
 use Rattle.lower_values.specs.Expressions as lowered
@@ -53,8 +57,8 @@ use Rattle.value_refinement.specs.Kept.{Kept}
 use Rattle.value_refinement.specs.Laws.{Stage, Goes, GoesTo, RawFollows, PlaceFollows, running}
 use Rattle.value_refinement.specs.Related.{is_constant, PointerIs, PlaceIs, Related}
 use Rattle.value_refinement.specs.Settings.{Setting, Set, HasCType}
-use Rattle.value_refinement.specs.Standing.{HasScalar}
-use Rattle.value_refinement.specs.Values.{Comes, Arrives, StandsFor}
+use Rattle.value_refinement.specs.Standing.{HasScalar, IsNumber}
+use Rattle.value_refinement.specs.Values.{Comes, Arrives, StandsFor, HasArithmetic}
 use Rattle.value_refinement.proofs.Names.{reference_follows}
 use Rattle.value_refinement.proofs.Running.{runs_first, takes_pad}
 use Rattle.value_refinement.proofs.Standings.{related_on}
@@ -179,3 +183,36 @@ module _ (g : Setting) (set : Set g) (objects : Map) (s : State) (stage : Stage 
         raw_is from =
             ap (λ ty. lowered.field_piece g.frame ty field (raw g.frame e from) (place g.frame e from)) at_field.operand
             ∙ ap (λ ty. lowered.reference (lowered.member_of g.frame ty field (place g.frame e from))) (sym at_field.operand)
+
+  -- ---- elements of arrays
+
+  module _ (l : Label) (e index : ExprCore) (typed : ExprTyped g.env g.scope e) (index_typed : ExprTyped g.env g.scope index) (whole : ExprTyped g.env g.scope (core.Element l e index)) (at_element : ElementTyped l (type_of e) (type_of index)) where
+    abbrev element_out : Written
+    element_out = written_out g.frame.core.structs at_element.element
+
+    -- the index is below the length
+    index_low : (i : ℤ) → Gives g.frame.core g.outcome s index (Num i) → IsTrue (is_index at_element.length i)
+    index_low i gives = subst (λ ty. IsTrue (is_value g.frame.core.structs ty i)) at_element.index_is (stage.fits index (Num i) index_typed gives)
+
+    from_natural : (n : ℕ) (i : ℤ) → IsTrue (is_index n i) → i ≡ pos (unsigned_abs i)
+    from_natural n (pos m) h = refl
+    from_natural n (negsuc m) h = let no : ⊥ = cc in absurd no
+
+    -- the element's place, from that of its array
+    element_is : (k : ℕ) (path : List ℕ) → Gives g.frame.core g.outcome s e (Ref k path) → (i : ℤ) → Gives g.frame.core g.outcome s index (Num i) → (w : CState) (to : Place) (d : Expr)
+        → PlaceIs g objects s.areas w (is_constant (type_of e)) to k path → IsNumber g.program w d i → HasArithmetic g.program w d → PlaceIs g objects s.areas w (is_constant l.ty) (Element (Member to elements_name) d) k (path ++ unsigned_abs i ∷ [])
+    element_is k path gives i index_gives w to d h number static =
+        let c0 : Bool = is_constant (type_of e) in
+        let array : Written = written_out g.frame.core.structs (types.Array at_element.length at_element.element) in
+        let low : unsigned_abs i < at_element.length = index_within at_element.length i (index_low i index_gives) in
+        let content : h.pointer.content ≡ Many at_element.length element_out = content_is e typed at_element.constant at_element.region (types.Array at_element.length at_element.element) at_element.operand k path gives w c0 (reference_to to) h.pointer in
+        let leads : part h.pointer.area.ty path ≡ Some (Many at_element.length element_out) = h.pointer.leads ∙ ap Some content in
+        let inner : target_of.eval_place g.program to w ≡ Ok (located g.program.target g.naming c0 h.pointer.object h.pointer.area.ty path (Many at_element.length element_out)) =
+            h.is ∙ ap (λ b. let r : Result Lvalue Trouble = Ok (located g.program.target g.naming c0 h.pointer.object h.pointer.area.ty path b) in r) content in
+        let found = elements_located g.program.target g.naming c0 h.pointer.object h.pointer.area.ty path at_element.length (unsigned_abs i) element_out number.0 leads low in
+        let is : target_of.eval_place g.program (Element (Member to elements_name) d) w ≡ Ok (located g.program.target g.naming c0 h.pointer.object h.pointer.area.ty (path ++ unsigned_abs i ∷ []) element_out) =
+            ap (λ r. on_ok (on_ok r (member_of g.program.target elements_name)) (λ a. on_ok (target_of.eval g.program d w) (places.element_of g.program.target a))) inner
+            ∙ ap (λ r. on_ok (member_of g.program.target elements_name (located g.program.target g.naming c0 h.pointer.object h.pointer.area.ty path (Many at_element.length element_out))) (λ a. on_ok r (places.element_of g.program.target a))) (number.1 ∙ ap (λ z. let r : Result CValue Trouble = Ok (target.Num number.0 z) in r) (from_natural at_element.length i (index_low i index_gives)))
+            ∙ ap (λ m. on_ok (member_of g.program.target m (located g.program.target g.naming c0 h.pointer.object h.pointer.area.ty path (Many at_element.length element_out))) (λ a. places.element_of g.program.target a (target.Num number.0 (pos (unsigned_abs i))))) (sym set.elements)
+            ∙ found.1 in
+        ?

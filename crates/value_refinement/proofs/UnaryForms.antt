@@ -32,6 +32,8 @@ use Rattle.core_meaning.specs.Expressions.{eval}
 use Rattle.core_meaning.specs.Gives.{Gives}
 use Rattle.core_meaning.specs.State.{State}
 use Rattle.core_meaning.specs.Values.{Value, Num, Ref}
+use Rattle.c_ast.specs.declared.CKind.TheVariants.{Scalar}
+use Rattle.c_ast.specs.declared.CScalar.TheVariants as scalar
 use Rattle.c_ast.specs.declared.Suffix.TheVariants.{Plain}
 use Rattle.c_ast.specs.Syntax as c
 use Rattle.c_ast.specs.Syntax.{Expr}
@@ -49,10 +51,11 @@ use Rattle.value_refinement.specs.FormLaws.{AreFor, Operand, never}
 use Rattle.value_refinement.specs.Laws.{Numbered, Stage, RawFollows}
 use Rattle.value_refinement.specs.Settings.{Setting, Set}
 use Rattle.value_refinement.specs.Standing.{ExactlyIs, IsNumber}
+use Rattle.value_refinement.specs.Values.{HasArithmetic, Simple}
 use Rattle.value_refinement.proofs.Casts.{casts_answer, indices_answer}
 use Rattle.value_refinement.proofs.Given.{never_refers, is_of_type, operand_follows, of_kind, many_checks, first_checks}
 use Rattle.value_refinement.proofs.NumberParts.{same_pieces, same_parts, checked_follows, stepped_follows}
-use Rattle.value_refinement.proofs.OperandValues.{exact_held}
+use Rattle.value_refinement.proofs.OperandValues.{exact_held, operand_given}
 use Rattle.value_refinement.proofs.Operands.{PieceFollows, as_raw}
 use Rattle.value_refinement.proofs.Types.{given_holds}
 use Rattle.value_refinement.proofs.WrappedIndices.{wraps_answer}
@@ -98,6 +101,17 @@ module _ (g : Setting) (set : Set g) (objects : Map) (s : State) (stage : Stage 
   exact_number : (e : ExprCore) → ExprTyped g.env g.scope e → (w : CState) (d : Expr) (a : ℤ) → Gives g.frame.core g.outcome s e (Num a) → ExactlyIs g.program w (scalar_for g.frame.table (type_of e)) d a → IsNumber g.program w d a
   exact_number e typed w d a gives exact = let h = exact_held g.program w (scalar_for g.frame.table (type_of e)) d a exact (given_holds g set s stage e a typed gives) in (h.kind, h.gives)
 
+  -- an operand as a value of its kind has the kind's type
+  valued_type : (e : ExprCore) → ExprTyped g.env g.scope e → reference_of (type_of e) ≡ None → (kind : IntKind) → kind_in g.frame (type_of e) ≡ Some kind → (w : CState) (d : Expr) (a : ℤ) → Gives g.frame.core g.outcome s e (Num a)
+      → ExactlyIs g.program w (scalar_for g.frame.table (type_of e)) d a → HasArithmetic g.program w (valued (kind_in g.frame (type_of e)) d)
+  valued_type e typed plain kind is w d a gives exact =
+      subst (λ k. HasArithmetic g.program w (valued k d)) (sym is)
+      (record { kind = Scalar (scalar.Int kind); type = (operand_given g.program w kind d a (of_kind g set objects s stage e typed plain kind is w d a gives exact)).type })
+
+  same_simple : (w : CState) (d : Expr) (owed : Bool) → HasArithmetic g.program w d → Simple g.program w Same owed d
+  same_simple w d true h = tt
+  same_simple w d false h = h
+
   -- `T(e)`
   module _ (l : Label) (e : ExprCore) (follows : RawFollows g objects s e) (typed : ExprTyped g.env g.scope (core.Cast l e)) (small : Numbered (expr_checks (core.Cast l e))) where
     abbrev cast_kind : HasKind g.frame.table (type_of e)
@@ -125,6 +139,7 @@ module _ (g : Setting) (set : Set g) (objects : Map) (s : State) (stage : Stage 
         (λ d which. range_guard g.frame (type_of e) l.ty (valued (kind_in g.frame (type_of e)) d)) (λ d. never) cast_answer
         (λ w d a gives exact. (cast_tells w d a gives exact).0)
         (λ w d a v gives exact answers. subst (λ n. IsNumber g.program w (valued (kind_in g.frame (type_of e)) d) n) (answered_itself (in_range typed.1.kind a) a v Cast answers) (cast_tells w d a gives exact).1)
+        (λ w d a gives exact owed. same_simple w (valued (kind_in g.frame (type_of e)) d) owed (valued_type e typed.0 cast_kind.plain cast_kind.kind cast_kind.is w d a gives exact))
         (λ a v gives answers. record { answer = cast_answer; has = ap cast_to typed.1.type; operand = a; is_given = gives; number = v; answers = answers; is = refl })))
 
   -- `toix(N, e)`
@@ -154,6 +169,7 @@ module _ (g : Setting) (set : Set g) (objects : Map) (s : State) (stage : Stage 
         (λ d which. range_guard g.frame (type_of e) l.ty (valued (kind_in g.frame (type_of e)) d)) (λ d. never) index_answer
         (λ w d a gives exact. (index_tells w d a gives exact).0)
         (λ w d a v gives exact answers. subst (λ n. IsNumber g.program w (valued (kind_in g.frame (type_of e)) d) n) (answered_itself (is_index typed.1.length a) a v Index answers) (index_tells w d a gives exact).1)
+        (λ w d a gives exact owed. same_simple w (valued (kind_in g.frame (type_of e)) d) owed (valued_type e typed.0 index_plain typed.1.kind (ap (kind_in g.frame) typed.1.operand) w d a gives exact))
         (λ a v gives answers. record { answer = index_answer; has = ap index_to typed.1.type; operand = a; is_given = gives; number = v; answers = answers; is = refl })))
 
   -- `wrapix(N, e)`

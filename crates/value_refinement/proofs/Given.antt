@@ -17,25 +17,30 @@ use Rattle.core_meaning.specs.Areas.{Areas}
 use Rattle.core_meaning.specs.Expressions.{eval}
 use Rattle.core_meaning.specs.Gives.{Gives}
 use Rattle.core_meaning.specs.State.{State}
-use Rattle.core_meaning.specs.Values.{Num, Ref}
+use Rattle.core_meaning.specs.Values.{Value, Num, Ref}
 use Rattle.c_ast.specs.declared.CKind.TheVariants.{Scalar}
 use Rattle.c_ast.specs.declared.CScalar.TheVariants as scalar
 use Rattle.c_ast.specs.declared.CType.{CType}
 use Rattle.c_ast.specs.declared.CType.TheVariants as ctype
 use Rattle.c_ast.specs.Conversions.{can_hold}
-use Rattle.c_ast.specs.Syntax.{Expr}
+use Rattle.c_ast.specs.Syntax.{Expr, Stmt}
+use Rattle.c_meaning.specs.Values.{CValue}
+use Rattle.step_semantics.specs.Control.{Control}
+use Rattle.step_semantics.specs.Follows.{Follows}
+use Rattle.step_semantics.specs.Steps.{World, Part, bind}
 use Rattle.c_ast.specs.Targets.{table_of}
 use Rattle.c_meaning.specs.State.{CState}
 use Rattle.area_objects.specs.Both.{Map}
 use Rattle.lower_types.specs.Types.{TypeTable, scalar_in, scalar_for, type_for}
-use Rattle.lower_values.specs.Expressions.{raw}
+use Rattle.lower_values.specs.Expressions.{raw, index_piece}
 use Rattle.lower_values.specs.Frames.{kind_in, type_in}
-use Rattle.lower_values.specs.Pieces.{taken}
+use Rattle.lower_values.specs.Pieces.{taken, atom}
 use Rattle.value_refinement.specs.FormLaws.{Operand}
-use Rattle.value_refinement.specs.Laws.{Numbered, Stage, RawFollows}
+use Rattle.value_refinement.specs.Laws.{Numbered, Stage, RawFollows, running}
+use Rattle.value_refinement.specs.Related.{Related}
 use Rattle.value_refinement.specs.Settings.{Setting, Set}
 use Rattle.value_refinement.specs.Standing.{ExactlyIs}
-use Rattle.value_refinement.proofs.Operands.{as_piece, taken_follows, OperandFollows}
+use Rattle.value_refinement.proofs.Operands.{as_piece, taken_follows, atom_follows, OperandFollows, OnIndex}
 use Rattle.value_refinement.proofs.Types.{given_holds}
 
 -- ---- types of numbers
@@ -67,6 +72,16 @@ module _ (g : Setting) (set : Set g) (objects : Map) (s : State) (stage : Stage 
   operand_follows follows again =
       subst (λ ty. OperandFollows g set objects s (eval g.frame.core g.outcome e) (Gives g.frame.core g.outcome s e) (type_of e) (λ from. taken again ty (raw g.frame e from))) (sym (value_type g.frame.table (type_of e) plain))
       (taken_follows g set objects s (eval g.frame.core g.outcome e) (Gives g.frame.core g.outcome s e) (type_of e) never_refers (raw g.frame e) (as_piece g set objects s e follows) (λ n gives. given_holds g set s stage e n typed gives) again)
+
+  -- as an index
+  pub index_operand : RawFollows g objects s e → (A : Type 0) (post : A → State → Control (Option CValue) → CState → Type 0) (go : Value → Part State A) (rest : List Stmt) (x y from : ℕ) → g.first ≤ from → (t : CState) → Related g objects s t
+      → OnIndex g set objects s post go rest x y from (index_piece g.frame (type_of e) (raw g.frame e from)) (Gives g.frame.core g.outcome s e) t
+      → (n : ℕ) (w : World) → Follows g.frame.skip post x y n (bind (eval g.frame.core g.outcome e) go n w s) (λ j. running g ((index_piece g.frame (type_of e) (raw g.frame e from)).before ++ rest) j w t)
+  index_operand follows A post go rest x y from le t related onward n w =
+      let is : type_in g.frame (type_of e) ≡ ctype.Value (scalar_for g.frame.table (type_of e)) = value_type g.frame.table (type_of e) plain in
+      subst (λ ty. Follows g.frame.skip post x y n (bind (eval g.frame.core g.outcome e) go n w s) (λ j. running g ((atom ty (raw g.frame e from)).before ++ rest) j w t)) (sym is)
+      (atom_follows g set objects s (eval g.frame.core g.outcome e) (Gives g.frame.core g.outcome s e) (type_of e) never_refers (raw g.frame e) (as_piece g set objects s e follows) (λ i gives. given_holds g set s stage e i typed gives) A post go rest x y from le t related
+      (subst (λ ty. OnIndex g set objects s post go rest x y from (atom ty (raw g.frame e from)) (Gives g.frame.core g.outcome s e) t) is onward) n w)
 
   -- one of a kind
   pub of_kind : (kind : IntKind) → kind_in g.frame (type_of e) ≡ Some kind → (w : CState) (d : Expr) (n : ℤ) → Gives g.frame.core g.outcome s e (Num n) → ExactlyIs g.program w (scalar_for g.frame.table (type_of e)) d n → Operand g.program w kind d n

@@ -213,6 +213,16 @@ module _ (g : Setting) (set : Set g) (objects : Map) (s : State) where
       → (t : CState) → Related g objects s t → OnNumber post go rest x y from (q from) given ty t
       → (n : ℕ) (w : World) → Follows g.frame.skip post x y n (bind part go n w s) (λ j. running g ((q from).before ++ rest) j w t)
 
+  -- the expression stands for an index by its number, and goes on to do so
+  pub record Indexed (from : ℕ) (q : Piece) (t : CState) (n : ℤ) (u : CState) : Type 0 where
+    pub grows : from ≤ q.next
+    pub kept : Kept g.program from t u
+    pub stands : (w : CState) → Kept g.program q.next u w → IsNumber g.program w q.value n × HasArithmetic g.program w q.value
+
+  abbrev pub OnIndex : {A : Type 0} → (post : A → State → Control (Option CValue) → CState → Type 0) → (go : Value → Part State A) → (rest : List Stmt) → (x y from : ℕ) → (q : Piece) → (given : Value → Type 0) → CState → Type 0
+  OnIndex post go rest x y from q given t =
+      (n : ℤ) (u : CState) → given (source.Num n) → Indexed from q t n u → (m : ℕ) (w : World) → Follows g.frame.skip post x y m (go (source.Num n) m w s) (λ j. running g rest j w u)
+
   module _ (part : Part State Value) (given : Value → Type 0) (ty : ValueType) (number : (k : ℕ) (path : List ℕ) → given (source.Ref k path) → ⊥) (p : ℕ → Piece) (follows : PieceFollows part given ty p)
       (holds : (n : ℤ) → given (source.Num n) → IsTrue (can_hold (table_of g.program.target) (Scalar (scalar_for g.frame.table ty)) n)) where
     abbrev kind : CScalar
@@ -322,26 +332,17 @@ module _ (g : Setting) (set : Set g) (objects : Map) (s : State) where
     abbrev extra_atom : Piece → List Stmt
     extra_atom q = if has_number q.standing && stays q then [] else Const (local_name q.next) (ctype.Value kind) q.value ∷ []
 
-    pub record Indexed (from : ℕ) (q : Piece) (t : CState) (n : ℤ) (u : CState) : Type 0 where
-      pub grows : from ≤ q.next
-      pub kept : Kept g.program from t u
-      pub stands : (w : CState) → Kept g.program q.next u w → IsNumber g.program w q.value n × HasArithmetic g.program w q.value
-
-    abbrev pub OnIndex : {A : Type 0} → (post : A → State → Control (Option CValue) → CState → Type 0) → (go : Value → Part State A) → (rest : List Stmt) → (x y from : ℕ) → (q : Piece) → CState → Type 0
-    OnIndex post go rest x y from q t =
-        (n : ℤ) (u : CState) → given (source.Num n) → Indexed from q t n u → (m : ℕ) (w : World) → Follows g.frame.skip post x y m (go (source.Num n) m w s) (λ j. running g rest j w u)
-
     -- named, it stands exactly
     on_named : {A : Type 0} (post : A → State → Control (Option CValue) → CState → Type 0) (go : Value → Part State A) (rest : List Stmt) (x y from : ℕ) (t : CState)
-        → OnIndex post go rest x y from (named (ctype.Value kind) (p from)) t → OnNumber post go rest x y from (named (ctype.Value kind) (p from)) given ty t
+        → OnIndex post go rest x y from (named (ctype.Value kind) (p from)) given t → OnNumber post go rest x y from (named (ctype.Value kind) (p from)) given ty t
     on_named post go rest x y from t onward n u gives stood m w =
         onward n u gives (record { grows = stood.grows; kept = stood.kept; stands = λ z kept. (by_number g z kind Exact (named (ctype.Value kind) (p from)).value n refl (holds n gives) (stood.stands z kept), typed_exactly g z kind (named (ctype.Value kind) (p from)).value n (stood.stands z kept)) }) m w
 
     pub atom_follows : (A : Type 0) (post : A → State → Control (Option CValue) → CState → Type 0) (go : Value → Part State A) (rest : List Stmt) (x y from : ℕ) → g.first ≤ from
-        → (t : CState) → Related g objects s t → OnIndex post go rest x y from (atom (ctype.Value kind) (p from)) t
+        → (t : CState) → Related g objects s t → OnIndex post go rest x y from (atom (ctype.Value kind) (p from)) given t
         → (n : ℕ) (w : World) → Follows g.frame.skip post x y n (bind part go n w s) (λ j. running g ((atom (ctype.Value kind) (p from)).before ++ rest) j w t)
     atom_follows A post go rest x y from le t related onward n w = by_case (has_number (p from).standing && stays (p from)) refl onward where
-      by_case : (b : Bool) → (has_number (p from).standing && stays (p from)) ≡ b → OnIndex post go rest x y from (if b then p from else named (ctype.Value kind) (p from)) t
+      by_case : (b : Bool) → (has_number (p from).standing && stays (p from)) ≡ b → OnIndex post go rest x y from (if b then p from else named (ctype.Value kind) (p from)) given t
           → Follows g.frame.skip post x y n (bind part go n w s) (λ j. running g ((if b then p from else named (ctype.Value kind) (p from)).before ++ rest) j w t)
       by_case true e on = follows A post go rest x y from le t related (only_numbers post go rest x y from t on_itself) n w where
         on_itself : (i : ℤ) (u : CState) → given (source.Num i) → Comes g objects s from (p from) ty t (source.Num i) u → (m : ℕ) (z : World) → Follows g.frame.skip post (x + spare (p from)) y m (ticks (owing (p from).owed) (go (source.Num i)) m z s) (λ j. running g rest j z u)

@@ -12,6 +12,7 @@ pub mod PrefixForms
 pub mod Names
 pub mod Literals
 pub mod References
+pub mod BinaryForms
 pub mod Lets
 pub mod OperandValues
 pub mod Naturals

@@ -4,3 +4,4 @@ pub mod Once
 pub mod Answered
 pub mod TextSteps
 pub mod Steps
+pub mod Places

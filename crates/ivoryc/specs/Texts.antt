@@ -1,5 +1,5 @@
 -- The lines that the program writes to its error output.
-use Rattle.std.specs.Prelude.{ℕ, pos, List, [], ◌∷◌, ◌++◌, codes}
+use Rattle.std.specs.Prelude.{◌≡◌, ◌≤◌, ℕ, pos, List, [], ◌∷◌, ◌++◌, length, codes}
 use Rattle.std.specs.Fmt.{signed_decimal}
 use Rattle.std.specs.List.{flat_map}
 use Rattle.iv_script.specs.declared.ScriptFault.{ScriptFault}
@@ -12,6 +12,7 @@ use Rattle.core_tree.specs.declared.SiteKind.{SiteKind}
 use Rattle.core_tree.specs.declared.SiteKind.TheVariants as kind
 use Rattle.c_text.specs.declared.CFault.{CFault}
 use Rattle.ivoryc.specs.declared.place.Place.{Place}
+use Rattle.ivoryc.specs.declared.place.Reached.{Reached}
 use Rattle.c_text.specs.declared.CWhy.{CWhy}
 use Rattle.c_text.specs.declared.CWhy.TheVariants.{Syntax, TooDeep, BadName, BadType}
 
@@ -42,6 +43,10 @@ ok_line = line (codes "ok")
 -- a place of a text, which is a number of bytes from its start, by its line and column
 abbrev pub place_in : List ℕ → ℕ → Place
 place_in text at = record { line = places.line text at; column = places.column text at }
+
+-- it is the place of the text behind so many bytes
+abbrev pub Stands : List ℕ → Reached → Type 0
+Stands text r = (r.before ≤ length text) × (r.place ≡ place_in text r.before)
 
 -- `LINE:COLUMN`
 abbrev pub place_text : Place → List ℕ

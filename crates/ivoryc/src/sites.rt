@@ -6,12 +6,12 @@ ghost use Rattle.ivory_lexer.specs.Limits.{source_limit};
 ghost use Rattle.ivoryc.specs.Calls.{change_of, store_seen, sink_seen};
 ghost use Rattle.ivoryc.specs.ModuleAnswers.{ListsSites};
 ghost use Rattle.ivoryc.specs.Steps.{LoadsFor, Performed, Does};
-ghost use Rattle.ivoryc.specs.Texts.{kind_word, site_line, sites_text};
+ghost use Rattle.ivoryc.specs.Texts.{kind_word, site_text, sites_text};
 ghost use Rattle.ivoryc.specs.declared.command.Command.TheVariants.{Sites};
 
 use crate::load::load;
 use crate::output::put;
-use crate::place::Place;
+use crate::place::{Place, Reached};
 use crate::read::read_core;
 use crate::refusal::Refusal;
 use arrayvec::ArrayString;
@@ -61,23 +61,23 @@ fn site_lines(alloc: Global, text: &[u8], sites: &Seq<Site>) -> Result<Word, Mem
     Ok(lines)
 }
 
-/// Adds a line for each site.
+/// Adds a line for each site, with one walk along the text where the sites stand in its order.
 fn add_lines(text: &[u8], sites: &[Site], lines: &mut Word) -> Result<(), Memory>
     requires { length text.now ≤ source_limit }
     ensures { OnOk result (lines.new ≡ lines.old ++ sites_text text.now (map check_of sites.now)) }
 {
+    let mut reached = Reached::start();
     for site in sites {
-        lines.extend_from_slice(line_of_site(text, site).as_bytes())?;
+        reached = reached.moved(text, site.span.start);
+        lines.extend_from_slice(line_of_site(site, reached.place).as_bytes())?;
     }
     Ok(())
 }
 
-/// The line of a site, `site K KIND LINE:COLUMN` and a line end.
-fn line_of_site(text: &[u8], site: &Site) -> ArrayString<LONGEST_LINE>
-    requires { length text.now ≤ source_limit }
-    ensures { result.bytes ≡ site_line text.now (check_of site.now) }
+/// The line of a site at a place, `site K KIND LINE:COLUMN` and a line end.
+fn line_of_site(site: &Site, place: Place) -> ArrayString<LONGEST_LINE>
+    ensures { result.bytes ≡ site_text site.now.id site.now.kind place }
 {
-    let place = Place::of(text, site.span.start);
     let mut number = Buffer::new();
     let mut line = ArrayString::new();
     line.push_str("site ");

@@ -13,6 +13,7 @@ pub mod Names
 pub mod Literals
 pub mod References
 pub mod BinaryForms
+pub mod SetForms
 pub mod Lets
 pub mod OperandValues
 pub mod Naturals

@@ -66,7 +66,7 @@ pub answered_itself : (b : Bool) (a v : ℤ) (k : SiteKind) → (if b then (let 
 answered_itself true a v k e = cc
 answered_itself false a v k e = let no : ⊥ = cc in absurd no
 
-few_unless : (b : Bool) (k : SiteKind) → length (unless b k) ≤ 4
+pub few_unless : (b : Bool) (k : SiteKind) → length (unless b k) ≤ 4
 few_unless true k = omega arith
 few_unless false k = omega arith
 

@@ -12,6 +12,7 @@ use Rattle.value_refinement.proofs.Names
 use Rattle.value_refinement.proofs.Literals
 use Rattle.value_refinement.proofs.References
 use Rattle.value_refinement.proofs.BinaryForms
+use Rattle.value_refinement.proofs.SetForms
 use Rattle.value_refinement.proofs.laws.states_stay_related.Goals as goal
 
 pub returns : goal.returns

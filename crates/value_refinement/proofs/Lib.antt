@@ -14,6 +14,8 @@ pub mod Literals
 pub mod References
 pub mod BinaryForms
 pub mod SetForms
+pub mod AreaParts
+pub mod Expressions
 pub mod Lets
 pub mod OperandValues
 pub mod Naturals

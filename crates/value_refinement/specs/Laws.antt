@@ -1,10 +1,11 @@
 -- What is shown of expressions: in any related states, the statements before an expression follow its evaluation, step for step, and what
 -- comes after them goes on from the value. The step of the last operator may still be owed, and credit may be left for a step of C.
-use Rattle.std.specs.Prelude.{◌≡◌, ℕ, ◌+◌, ◌^◌, ◌<◌, ◌≤◌, List, All, ◌++◌, Bool, true, false, if◌then◌else◌, Option, IsTrue}
+use Rattle.std.specs.Prelude.{◌≡◌, ℕ, ◌+◌, ◌^◌, ◌<◌, ◌≤◌, List, All, ◌++◌, Bool, true, false, not, if◌then◌else◌, Option, IsTrue}
 use Rattle.step_semantics.specs.Control.{Control}
 use Rattle.step_semantics.specs.Follows.{Follows}
 use Rattle.step_semantics.specs.Steps.{World, Part, bind, ticks}
-use Rattle.area_types.specs.Syntax.{ValueType}
+use Rattle.area_types.specs.Syntax.{ValueType, Ref, Stored}
+use Rattle.area_types.specs.declared.region.Region.{Region}
 use Rattle.area_types.specs.Tables.{has_index_length}
 use Rattle.source_types.specs.Values.{is_reference}
 use Rattle.core_tree.specs.Checks.{expr_checks}
@@ -14,7 +15,8 @@ use Rattle.core_tree.specs.TypedExpressions.{ExprTyped}
 use Rattle.core_meaning.specs.Expressions.{eval}
 use Rattle.core_meaning.specs.Gives.{Gives}
 use Rattle.core_meaning.specs.State.{State}
-use Rattle.core_meaning.specs.Values.{Value, Ref}
+use Rattle.core_meaning.specs.Values as source
+use Rattle.core_meaning.specs.Values.{Value}
 use Rattle.c_ast.specs.Syntax.{Stmt}
 use Rattle.c_ast.specs.View.{stmts_from}
 use Rattle.c_meaning.specs.State.{CState}
@@ -45,6 +47,8 @@ spare p = if p.owed then 0 else if is_exact p.standing then 0 else 8
 pub record Stage (g : Setting) (s : State) : Type 0 where
   pub entry : Entry
   pub fits : (e : ExprCore) (v : Value) → ExprTyped g.env g.scope e → Gives g.frame.core g.outcome s e v → ValueFits g.frame.core entry s.areas (type_of e) v
+  -- no area holds references
+  pub stored : (e : ExprCore) (constant : Bool) (region : Region) (held : ValueType) → ExprTyped g.env g.scope e → type_of e ≡ Ref constant region (Stored held) → IsTrue (not (is_reference held))
   pub indexed : (e : ExprCore) → ExprTyped g.env g.scope e → IsTrue (has_index_length (type_of e))
 
 -- its checks have numbers that C has constants for
@@ -64,8 +68,8 @@ module _ (g : Setting) (objects : Map) (s : State) where
         → (m : ℕ) (w : World) → Follows g.frame.skip post (x + spare p) y m (ticks (owing p.owed) (go v) m w s) (λ j. running g rest j w u)
 
   pub record GoesTo {A : Type 0} (post : A → State → Control (Option CValue) → CState → Type 0) (go : Value → Part State A) (rest : List Stmt) (x y from : ℕ) (p : PlacePiece) (e : ExprCore) (t : CState) : Type 0 where
-    pub by : (k : ℕ) (path : List ℕ) (u : CState) → Gives g.frame.core g.outcome s e (Ref k path) → Arrives g objects s from p.place p.next (type_of e) t k path u
-        → (m : ℕ) (w : World) → Follows g.frame.skip post x y m (go (Ref k path) m w s) (λ j. running g rest j w u)
+    pub by : (k : ℕ) (path : List ℕ) (u : CState) → Gives g.frame.core g.outcome s e (source.Ref k path) → Arrives g objects s from p.place p.next (type_of e) t k path u
+        → (m : ℕ) (w : World) → Follows g.frame.skip post x y m (go (source.Ref k path) m w s) (λ j. running g rest j w u)
 
   abbrev pub RawFollows : ExprCore → Type 1
   RawFollows e =

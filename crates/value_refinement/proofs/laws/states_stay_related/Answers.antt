@@ -13,6 +13,7 @@ use Rattle.value_refinement.proofs.Literals
 use Rattle.value_refinement.proofs.References
 use Rattle.value_refinement.proofs.BinaryForms
 use Rattle.value_refinement.proofs.SetForms
+use Rattle.value_refinement.proofs.Expressions
 use Rattle.value_refinement.proofs.laws.states_stay_related.Goals as goal
 
 pub returns : goal.returns

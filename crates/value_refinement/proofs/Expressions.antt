@@ -21,14 +21,17 @@ use Rattle.core_meaning.specs.Gives.{Gives}
 use Rattle.core_meaning.specs.State.{State}
 use Rattle.core_meaning.specs.Values.{Num}
 use Rattle.area_objects.specs.Both.{Map}
-use Rattle.lower_values.specs.Choices.{is_logic}
+use Rattle.lower_values.specs.Choices.{is_logic, is_truth_chain}
 use Rattle.lower_values.specs.Conversions.{bit_field}
 use Rattle.lower_values.specs.Expressions.{raw, place, field_piece}
 use Rattle.value_refinement.specs.Laws.{Numbered, Stage, RawFollows, PlaceFollows}
 use Rattle.value_refinement.specs.Settings.{Setting, Set}
+use Rattle.value_refinement.proofs.Arms.{ObjectFollows, object_raw}
 use Rattle.value_refinement.proofs.BinaryForms.{binary_follows}
+use Rattle.value_refinement.proofs.Choices.{cond_object}
 use Rattle.value_refinement.proofs.Given.{first_checks, last_checks}
 use Rattle.value_refinement.proofs.Literals.{literal_follows}
+use Rattle.value_refinement.proofs.Logic.{logic_object, chain_follows}
 use Rattle.value_refinement.proofs.Names.{local_follows, local_place_follows, outcome_follows, outcome_place_follows, area_place_follows, reference_follows, whole_follows, whole_place_follows}
 use Rattle.value_refinement.proofs.NumberParts.{same_pieces}
 use Rattle.value_refinement.proofs.Operands.{as_raw}
@@ -60,10 +63,12 @@ module _ (g : Setting) (set : Set g) (objects : Map) (s : State) (stage : Stage 
       ⊎_elim (λ at. bits_follow l e field typed.0 at follows)
       (λ at. struct_field_follows g set objects s stage l e field typed.0 typed at (place_of (ap is_reference at.operand))) typed.1
 
+  -- an operator on numbers, or else `&&` or `||`
   binary_by : (l : Label) (o : BinOp) (left right : ExprCore) → ExprTyped g.env g.scope (Binary l o left right) → Numbered (expr_checks (Binary l o left right)) → RawFollows g objects s left → RawFollows g objects s right
-      → (is_logic o ≡ true → RawFollows g objects s (Binary l o left right)) → (b : Bool) → is_logic o ≡ b → RawFollows g objects s (Binary l o left right)
-  binary_by l o left right typed small left_follows right_follows logic true e = logic e
-  binary_by l o left right typed small left_follows right_follows logic false e = binary_follows g set objects s stage l o left right left_follows right_follows typed small e
+      → (IsTrue (is_truth_chain left) → ObjectFollows g objects s left) → (b : Bool) → is_logic o ≡ b → RawFollows g objects s (Binary l o left right)
+  binary_by l o left right typed small left_follows right_follows chain true e =
+      object_raw g set objects s stage (Binary l o left right) typed (logic_object g set objects s stage l o left right e typed left_follows chain right_follows)
+  binary_by l o left right typed small left_follows right_follows chain false e = binary_follows g set objects s stage l o left right left_follows right_follows typed small e
 
   -- a value of a reference's type is no number
   number_never : (e : ExprCore) → ExprTyped g.env g.scope e → IsTrue (is_reference (type_of e)) → (n : ℤ) → Gives g.frame.core g.outcome s e (Num n) → ⊥
@@ -172,14 +177,28 @@ module _ (g : Setting) (set : Set g) (objects : Map) (s : State) (stage : Stage 
     raw_all (Prefix l Deref e) typed small = deref_follows g set objects s stage l e typed.0 typed.1 (place_all e typed.0 (last_checks l.checks (expr_checks e) small) (ap is_reference typed.1.operand))
     raw_all (Binary l o left right) typed small =
         binary_by l o left right typed small (raw_all left typed.0 (first_checks (expr_checks left) (l.checks ++ expr_checks right) small))
-        (raw_all right typed.1 (last_checks l.checks (expr_checks right) (last_checks (expr_checks left) (l.checks ++ expr_checks right) small))) ? (is_logic o) refl
+        (raw_all right typed.1 (last_checks l.checks (expr_checks right) (last_checks (expr_checks left) (l.checks ++ expr_checks right) small)))
+        (λ inner. object_all left typed.0 (first_checks (expr_checks left) (l.checks ++ expr_checks right) small) inner) (is_logic o) refl
     raw_all (Field l e field) typed small =
         field_follows l e field typed (raw_all e typed.0 (first_checks (expr_checks e) l.checks small)) (λ refers. place_all e typed.0 (first_checks (expr_checks e) l.checks small) refers)
     raw_all (Element l e index) typed small =
         element_follows g set objects s stage l e index typed.0 typed.1 typed typed.2 (place_all e typed.0 (first_checks (expr_checks e) (l.checks ++ expr_checks index) small) (ap is_reference typed.2.operand))
         (raw_all index typed.1 (last_checks l.checks (expr_checks index) (last_checks (expr_checks e) (l.checks ++ expr_checks index) small)))
-    raw_all (Cond l test first second) typed small = ?
+    raw_all (Cond l test first second) typed small =
+        object_raw g set objects s stage (Cond l test first second) typed
+        (cond_object g set objects s stage l test first second typed (raw_all test typed.0 (first_checks (expr_checks test) (l.checks ++ (expr_checks first ++ expr_checks second)) small))
+        (raw_all first typed.1 (first_checks (expr_checks first) (expr_checks second) (last_checks l.checks (expr_checks first ++ expr_checks second) (last_checks (expr_checks test) (l.checks ++ (expr_checks first ++ expr_checks second)) small))))
+        (raw_all second typed.2 (last_checks (expr_checks first) (expr_checks second) (last_checks l.checks (expr_checks first ++ expr_checks second) (last_checks (expr_checks test) (l.checks ++ (expr_checks first ++ expr_checks second)) small)))))
     raw_all (Whole l e) typed small = whole_follows g set objects s l e typed (raw_all e typed.0 (first_checks (expr_checks e) l.checks small))
+
+    -- of a chain of `&&` and `||`, whose value is in an object
+    pub object_all : (e : ExprCore) → ExprTyped g.env g.scope e → Numbered (expr_checks e) → IsTrue (is_truth_chain e) → ObjectFollows g objects s e
+    object_all (Binary l o left right) typed small chain =
+        logic_object g set objects s stage l o left right chain typed (raw_all left typed.0 (first_checks (expr_checks left) (l.checks ++ expr_checks right) small))
+        (λ inner. object_all left typed.0 (first_checks (expr_checks left) (l.checks ++ expr_checks right) small) inner)
+        (raw_all right typed.1 (last_checks l.checks (expr_checks right) (last_checks (expr_checks left) (l.checks ++ expr_checks right) small)))
+    object_all (Whole l e) typed small chain = chain_follows g set objects s stage l e typed (object_all e typed.0 (first_checks (expr_checks e) l.checks small) chain)
+    object_all e typed small chain = let no : ⊥ = cc in absurd no
 
     pub place_all : (e : ExprCore) → ExprTyped g.env g.scope e → Numbered (expr_checks e) → IsTrue (is_reference (type_of e)) → PlaceFollows g objects s e
     place_all (Outcome l) typed small refers = outcome_place_follows g set objects s l typed (number_never (Outcome l) typed refers)

@@ -15,6 +15,11 @@ pub mod References
 pub mod BinaryForms
 pub mod SetForms
 pub mod AreaParts
+pub mod Objects
+pub mod Growing
+pub mod Arms
+pub mod Logic
+pub mod Choices
 pub mod Expressions
 pub mod Lets
 pub mod OperandValues

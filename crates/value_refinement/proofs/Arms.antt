@@ -1,11 +1,11 @@
 -- A value that is left in an object: by a block that ends with an assignment, and where an expression's own value is in one.
-use Rattle.std.proofs.Common.{◌≡◌, ◌≢◌, ℕ, zero, suc, ◌+◌, ◌*◌, ◌<◌, ◌≤◌, ℤ, Bool, true, false, List, [], ◌∷◌, ◌++◌, length, Option, Some, None, Result, Ok, Err, refl, sym, ◌∙◌, ap, subst, arith}
+use Rattle.std.proofs.Common.{◌≡◌, ℕ, zero, suc, ◌+◌, ◌<◌, ◌≤◌, ℤ, Bool, true, false, List, [], ◌∷◌, ◌++◌, length, Option, Some, None, refl, sym, ◌∙◌, ap, subst, arith}
 use Rattle.std.specs.Prelude.{if◌then◌else◌, not, slice_get, unwrap_or, IsTrue}
 use Rattle.iv_words.specs.declared.IntKind.{IntKind}
 use Rattle.iv_words.specs.declared.IntKind.TheVariants.{U8}
 use Rattle.step_semantics.specs.Control.{Control, Falls, Broke, Returned, onward}
 use Rattle.step_semantics.specs.Follows.{Follows}
-use Rattle.step_semantics.specs.Steps.{World, Progress, Finished, Exhausted, Part, give, after, bind, tick, ticks, left}
+use Rattle.step_semantics.specs.Steps.{World, Progress, Exhausted, Part, give, after, bind, tick, ticks, left}
 use Rattle.step_semantics.specs.Takes.{Reaches}
 use Rattle.step_semantics.proofs.ControlFollows.{Falling, Read as Looks, bound_read}
 use Rattle.step_semantics.proofs.Equations.{after_give}
@@ -36,11 +36,10 @@ use Rattle.c_ast.specs.Scalars.{metric_of}
 use Rattle.c_ast.specs.Syntax.{Name, Expr, Read, Var, Stmt, Assign}
 use Rattle.c_ast.specs.Targets.{table_of}
 use Rattle.c_meaning.specs.Calls.{given}
-use Rattle.c_meaning.specs.Expressions as c
 use Rattle.c_meaning.specs.Memory.{memory_of}
 use Rattle.c_meaning.specs.State.{Program, CState, leave}
 use Rattle.c_meaning.specs.Statements.{with_truth}
-use Rattle.c_meaning.specs.Values.{CValue, is_true, on_ok}
+use Rattle.c_meaning.specs.Values.{CValue}
 use Rattle.c_meaning.proofs.HeldNumbers.{held_converts}
 use Rattle.lower_types.specs.Names.{local_name}
 use Rattle.lower_types.specs.Types.{table_for, scalar_in, scalar_for}
@@ -48,15 +47,15 @@ use Rattle.lower_values.specs.Choices.{into}
 use Rattle.lower_values.specs.Expressions.{raw}
 use Rattle.lower_values.specs.Pieces.{Piece, Standing, Exact, Same, Near, is_exact}
 use Rattle.value_refinement.specs.Kept.{Kept}
-use Rattle.value_refinement.specs.Laws.{owing, spare, Stage, Goes, running, RawFollows}
+use Rattle.value_refinement.specs.Laws.{owing, spare, Stage, running, RawFollows}
 use Rattle.value_refinement.specs.Related.{Related}
 use Rattle.value_refinement.specs.Settings.{Setting, Set, IsOld}
-use Rattle.value_refinement.specs.Standing.{IsNumber, Converts, Stands, TestIs}
+use Rattle.form_answers.specs.Standing.{IsNumber, Converts, Stands, TestIs}
 use Rattle.value_refinement.specs.Values.{Simple, StandsFor, Comes}
 use Rattle.value_refinement.proofs.Growing.{raw_grows}
 use Rattle.value_refinement.proofs.Keeping.{kept_same, same_twice}
 use Rattle.value_refinement.proofs.Objects.{ObjectIs, temporary_is_old, object_made, object_read, object_kept, object_left, kept_left, takes_assign}
-use Rattle.value_refinement.proofs.OperandValues.{exact_held}
+use Rattle.form_answers.proofs.OperandValues.{exact_held}
 use Rattle.value_refinement.proofs.Running.{runs_first}
 use Rattle.value_refinement.proofs.Standings.{related_on}
 
@@ -155,7 +154,7 @@ module _ (g : Setting) (set : Set g) (objects : Map) (s : State) (stage : Stage 
       let k : CScalar = scalar_for g.frame.table ty in
       let name : Name = local_name h.temporary in
       let base : Simple g.program w Exact false (Read (Var name)) × Stands Exact g.program w k (Read (Var name)) h.number =
-          (refl, object_read g.program w name k h.object h.number (object_kept g.program p.next u w name k h.object (Some h.number) (temporary_is_old h.temporary p.next h.below) kept h.holds) can) in
+      (refl, object_read g.program w name k h.object h.number (object_kept g.program p.next u w name k h.object (Some h.number) (temporary_is_old h.temporary p.next h.below) kept h.holds) can) in
       subst (λ a. StandsFor g objects s p ty w a) (sym h.is)
       (subst (λ st. Simple g.program w st p.owed p.value × Stands st g.program w k p.value h.number) (sym h.exact)
       (subst (λ b. Simple g.program w Exact b p.value × Stands Exact g.program w k p.value h.number) (sym h.owed)
@@ -242,9 +241,9 @@ module _ (g : Setting) (set : Set g) (objects : Map) (s : State) (stage : Stage 
         let p : Piece = raw g.frame e from in
         let r : Progress State Value = eval g.frame.core g.outcome e n w s in
         let inside : Follows g.frame.skip Within (suc y) y n r (λ j. running g (into (Var x) p) j w t) =
-            subst (λ q. Follows g.frame.skip Within (suc y) y n q (λ j. running g (into (Var x) p) j w t)) (after_give r)
-            (follows Value Within give (Assign (Var x) p.value ∷ []) (suc y) y from (omega (arith, low, le)) t (related_on g set objects s k low first t before related)
-            (record { by = λ v u gives comes m i. assigned v u (stage.fits e v typed gives) gives comes y m i }) n w) in
+        subst (λ q. Follows g.frame.skip Within (suc y) y n q (λ j. running g (into (Var x) p) j w t)) (after_give r)
+        (follows Value Within give (Assign (Var x) p.value ∷ []) (suc y) y from (omega (arith, low, le)) t (related_on g set objects s k low first t before related)
+        (record { by = λ v u gives comes m i. assigned v u (stage.fits e v typed gives) gives comes y m i }) n w) in
         bound_read g.frame.skip s (λ v u. LeftIn first k x o e v u) post (suc y) y z n r (λ j. left leave t (running g (into (Var x) p) j w t)) go (running g rest)
         (wrapped g.frame.skip Within (Falling (Looks s (λ v u. LeftIn first k x o e v u))) leave t (suc y) y n r (λ j. running g (into (Var x) p) j w t)
         (λ a u b v h. falls_on Value (λ v u. LeftIn first k x o e v u) t a u b v h) inside)

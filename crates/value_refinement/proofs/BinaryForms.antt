@@ -1,6 +1,6 @@
 -- Operators between two numbers: of a kind, with the checks of the kind, and of truths, which are compared as they are.
 use Rattle.std.proofs.Common.{◌≡◌, ℕ, ◌≤◌, ℤ, Bool, true, false, IsTrue, List, [], ◌∷◌, ◌++◌, length, map, Option, Some, None, Ok, refl, sym, ◌∙◌, ap, subst, arith}
-use Rattle.std.specs.Prelude.{if◌then◌else◌, not}
+use Rattle.std.specs.Prelude.{if◌then◌else◌}
 use Rattle.std.proofs.lemmas.List.{append-nil}
 use Rattle.iv_words.specs.Kinds.{is_signed}
 use Rattle.iv_words.specs.declared.IntKind.{IntKind}
@@ -11,8 +11,7 @@ use Rattle.int_ops.specs.declared.Op.TheVariants as op
 use Rattle.index_types.specs.Indices.{is_index}
 use Rattle.ivory_tree.specs.declared.BinOp.{BinOp}
 use Rattle.ivory_tree.specs.declared.BinOp.TheVariants.{OrElse, AndAlso, Or, Xor, And, Eq, Ne, Lt, Le, Gt, Ge, Shl, Shr, Add, Sub, WrapAdd, WrapSub, Mul, Div, Rem, WrapMul}
-use Rattle.step_semantics.specs.Steps.{World, Part, bind}
-use Rattle.area_types.specs.Syntax as types
+use Rattle.step_semantics.specs.Steps.{Part, bind}
 use Rattle.area_types.specs.Syntax.{ValueType, Truth, Int, Ix}
 use Rattle.region_check.specs.Calls.{reference_of}
 use Rattle.source_types.specs.Operators.{is_for}
@@ -23,14 +22,12 @@ use Rattle.core_tree.specs.Syntax.{ExprCore, Label, type_of}
 use Rattle.core_tree.specs.TypedExpressions.{ExprTyped}
 use Rattle.core_tree.specs.Types.{is_value}
 use Rattle.core_tree.specs.declared.Check.{Check}
-use Rattle.core_tree.specs.declared.SiteKind.{SiteKind}
 use Rattle.core_meaning.specs.Answers.{site_of, equates, operator_of, operation, in_kind}
 use Rattle.core_meaning.specs.Checks.{Answer, answering, on_number, on_some}
 use Rattle.core_meaning.specs.Expressions.{eval, of_numbers, combined}
 use Rattle.core_meaning.specs.Gives.{Given, Gives, OfNumbers, BinaryGives}
 use Rattle.core_meaning.specs.State.{State}
 use Rattle.core_meaning.specs.Values.{Value, Num}
-use Rattle.c_ast.specs.declared.CScalar.TheVariants as scalar
 use Rattle.c_ast.specs.Syntax.{Expr}
 use Rattle.c_meaning.specs.State.{CState}
 use Rattle.area_objects.specs.Both.{Map}
@@ -44,16 +41,16 @@ use Rattle.lower_values.specs.Operators.{guard_in, computed, compared, operand, 
 use Rattle.lower_values.specs.Pieces.{Piece, Near, taken, both}
 use Rattle.lower_values.specs.Ranges.{settled}
 use Rattle.lower_values.specs.Tests.{tests, are_none, has_checks}
-use Rattle.value_refinement.specs.Answering.{GuardsTell}
-use Rattle.value_refinement.specs.FormLaws.{Operand, never}
+use Rattle.form_answers.specs.Answering.{GuardsTell}
+use Rattle.form_answers.specs.FormLaws.{Operand, never}
 use Rattle.value_refinement.specs.Laws.{Numbered, Stage, RawFollows}
 use Rattle.value_refinement.specs.Settings.{Setting, Set}
-use Rattle.value_refinement.specs.Standing.{ExactlyIs, Converts}
+use Rattle.form_answers.specs.Standing.{ExactlyIs, Converts}
 use Rattle.value_refinement.proofs.Given.{is_of_type, operand_follows, of_kind, many_checks, first_checks, last_checks}
 use Rattle.value_refinement.proofs.NumberParts.{same_pieces, same_parts, paired_follows}
 use Rattle.value_refinement.proofs.Operands.{PieceFollows, OperandFollows, as_raw}
-use Rattle.value_refinement.proofs.Operators.{operators_answer}
-use Rattle.value_refinement.proofs.Truths.{truths_compare}
+use Rattle.form_answers.proofs.Operators.{operators_answer}
+use Rattle.form_answers.proofs.Truths.{truths_compare}
 
 -- ---- what operators are for
 
@@ -265,7 +262,7 @@ module _ (g : Setting) (set : Set g) (objects : Map) (s : State) (stage : Stage 
         l own_small (subst (λ n. n ≤ 4) (sym (many_checks l.checks (map site_of (checks op_of kind)) sites)) k.few) (λ d e. guard_in g.frame kind op_of d e) (λ d e. settled kind op_of e) answer
         (λ w d e a b first second exact_d exact_e. (tells w d e a b first second exact_d exact_e).0)
         (λ w d e a b v first second exact_d exact_e answers.
-            subst (λ c. Converts g.program w c (computed kind op_of d e) v) (sym (ap (scalar_for g.frame.table) typed.2.type ∙ k.result)) ((tells w d e a b first second exact_d exact_e).1 v answers))
+        subst (λ c. Converts g.program w c (computed kind op_of d e) v) (sym (ap (scalar_for g.frame.table) typed.2.type ∙ k.result)) ((tells w d e a b first second exact_d exact_e).1 v answers))
         (gives answer k.form)
 
     kinded_follows : RawFollows g objects s (core.Binary l o left right)
@@ -307,7 +304,7 @@ module _ (g : Setting) (set : Set g) (objects : Map) (s : State) (stage : Stage 
     without_row from =
         ap (joined from) unchecked
         ∙ ap (λ ss. let q : Piece = record { before = ss; value = compared op_of (left_at from).value (right_at (left_at from).next).value; owed = true; standing = Near; next = (right_at (left_at from).next).next } in q)
-          (append-nil ((left_at from).before ++ (right_at (left_at from).next).before))
+        (append-nil ((left_at from).before ++ (right_at (left_at from).next).before))
 
     of_truths : PieceFollows g set objects s (parts (in_kind op_of U16)) (Gives g.frame.core g.outcome s (core.Binary l o left right)) l.ty (λ from. joined from l.checks)
     of_truths =
@@ -317,9 +314,9 @@ module _ (g : Setting) (set : Set g) (objects : Map) (s : State) (stage : Stage 
         l own_small (subst (λ n. n ≤ 4) (sym (ap length unchecked)) (omega arith)) (λ d e which. d) (λ d e. never) (in_kind op_of U16)
         (λ w d e a b first second exact_d exact_e. subst (GuardsTell g.program w (λ which. d) never (in_kind op_of U16 a b)) (sym unchecked) tt)
         (λ w d e a b v first second exact_d exact_e answers.
-            subst (λ c. Converts g.program w c (compared op_of d e) v) (sym (ap (scalar_for g.frame.table) (typed.2.type ∙ k.result)))
-            (truths_compare g.program w op_of d e a b v k.equals (subst (λ ty. ExactlyIs g.program w (scalar_for g.frame.table ty) d a) k.is exact_d) (subst (λ ty. ExactlyIs g.program w (scalar_for g.frame.table ty) e b) k.is exact_e)
-            (truth_value left typed.0 k.is a first) (truth_value right typed.1 (typed.2.same ∙ k.is) b second) answers))
+        subst (λ c. Converts g.program w c (compared op_of d e) v) (sym (ap (scalar_for g.frame.table) (typed.2.type ∙ k.result)))
+        (truths_compare g.program w op_of d e a b v k.equals (subst (λ ty. ExactlyIs g.program w (scalar_for g.frame.table ty) d a) k.is exact_d) (subst (λ ty. ExactlyIs g.program w (scalar_for g.frame.table ty) e b) k.is exact_e)
+        (truth_value left typed.0 k.is a first) (truth_value right typed.1 (typed.2.same ∙ k.is) b second) answers))
         (gives (in_kind op_of U16) truth_form)
 
     truths_follow : RawFollows g objects s (core.Binary l o left right)

@@ -1,5 +1,5 @@
 -- Bit data of a module: the layout, the kind of its word in C, and where a field is.
-use Rattle.std.proofs.Common.{◌≡◌, ℕ, List, map, Option, Some, None, refl, sym, ◌∙◌, ap, subst}
+use Rattle.std.proofs.Common.{◌≡◌, ℕ, Option, Some, None, refl, sym, ◌∙◌, ap, subst}
 use Rattle.std.specs.Prelude.{slice_get}
 use Rattle.std.specs.Option.{option_map, option_and_then}
 use Rattle.std.proofs.lemmas.Option.{slice_get-map, get_or_from_slice_get, slice_get_within}
@@ -13,7 +13,7 @@ use Rattle.core_tree.specs.Syntax.{ModuleCore}
 use Rattle.core_meaning.specs.Answers.{layout_of}
 use Rattle.lower_types.specs.Types.{kind_of}
 use Rattle.lower_values.specs.Frames.{kind_in}
-use Rattle.value_refinement.specs.FormLaws.{FieldIs}
+use Rattle.form_answers.specs.FormLaws.{FieldIs}
 use Rattle.value_refinement.specs.Settings.{Setting, Set}
 
 -- the layout of a type of bit data, its word, and the field of that number

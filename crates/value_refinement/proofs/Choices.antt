@@ -1,16 +1,15 @@
 -- `? :`: an object without a value, which is assigned in the block of the arm that is taken.
-use Rattle.std.proofs.Common.{◌≡◌, ℕ, zero, suc, ◌+◌, ◌*◌, ◌<◌, ◌≤◌, ℤ, pos, Bool, true, false, List, [], ◌∷◌, ◌++◌, length, Option, Some, None, Result, Ok, Err, refl, sym, ◌∙◌, ap, subst, arith, append_assoc}
+use Rattle.std.proofs.Common.{◌≡◌, ℕ, suc, ◌+◌, ◌<◌, ◌≤◌, ℤ, pos, Bool, true, false, List, [], ◌∷◌, ◌++◌, length, Option, Some, None, Result, Ok, Err, refl, sym, ◌∙◌, ap, subst, arith, append_assoc}
 use Rattle.std.specs.Prelude.{if◌then◌else◌, not, IsTrue}
 use Rattle.std.specs.Ordering.{int_eq}
 use Rattle.run_records.specs.declared.Reason.{Reason}
-use Rattle.step_semantics.specs.Control.{Control, Falls, onward}
+use Rattle.step_semantics.specs.Control.{Control, onward}
 use Rattle.step_semantics.specs.Follows.{Follows}
 use Rattle.step_semantics.specs.Steps.{World, Progress, Part, after, bind, tick, ticks, left, block}
 use Rattle.step_semantics.specs.Takes.{Reaches}
 use Rattle.step_semantics.proofs.Equations.{after_after, tick_then, ticks_same, ticks_last}
 use Rattle.step_semantics.proofs.Following.{eased}
 use Rattle.step_semantics.proofs.Paying.{reaches_more, pays_to}
-use Rattle.area_types.specs.Syntax.{ValueType, Truth}
 use Rattle.area_objects.specs.Both.{Map}
 use Rattle.source_types.specs.Values.{is_reference}
 use Rattle.core_tree.specs.Syntax.{Label, ExprCore, Cond, type_of}
@@ -33,7 +32,7 @@ use Rattle.c_ast.specs.Syntax.{Name, Expr, Var, Stmt, Object, IfElse}
 use Rattle.c_ast.specs.Targets.{TargetTable, table_of}
 use Rattle.c_ast.specs.View.{stmts_from}
 use Rattle.c_meaning.specs.Expressions as target
-use Rattle.c_meaning.specs.Operators.{unary, binary, truth, with_number, operand}
+use Rattle.c_meaning.specs.Operators.{unary, binary, truth, with_number}
 use Rattle.c_meaning.specs.State.{Program, CState, leave}
 use Rattle.c_meaning.specs.Values as values
 use Rattle.c_meaning.specs.Values.{CValue, Trouble, is_true, on_ok}
@@ -47,12 +46,12 @@ use Rattle.value_refinement.specs.Kept.{Kept}
 use Rattle.value_refinement.specs.Laws.{owing, spare, Stage, running, RawFollows}
 use Rattle.value_refinement.specs.Related.{Related}
 use Rattle.value_refinement.specs.Settings.{Setting, Set}
-use Rattle.value_refinement.specs.Standing.{Converts, Stands, TestIs}
+use Rattle.form_answers.specs.Standing.{Converts, Stands, TestIs}
 use Rattle.value_refinement.specs.Values.{Simple, Comes}
-use Rattle.value_refinement.proofs.Arms.{no_reference, stands_converts, truth_reaches, owing_few, InObject, GoesOn, ObjectFollows, given_held, LeftIn, arm_follows}
+use Rattle.value_refinement.proofs.Arms.{no_reference, stands_converts, truth_reaches, owing_few, GoesOn, ObjectFollows, given_held, arm_follows}
 use Rattle.value_refinement.proofs.Growing.{raw_grows}
 use Rattle.value_refinement.proofs.Keeping.{kept_twice}
-use Rattle.value_refinement.proofs.Objects.{ObjectIs, Declared, temporary_is_old, takes_object}
+use Rattle.value_refinement.proofs.Objects.{ObjectIs, temporary_is_old, takes_object}
 use Rattle.value_refinement.proofs.Running.{runs_first, takes_pad}
 
 -- ---- conditions
@@ -212,7 +211,7 @@ module _ (g : Setting) (set : Set g) (objects : Map) (s : State) (stage : Stage 
           let can : IsTrue (can_hold (table_of g.program.target) (Scalar k) i) = given_held g set objects s stage test typed.0 (Num i) i refl gives in
           let both : Simple g.program v p.standing p.owed p.value × Stands p.standing g.program v k p.value i = comes.stands v d.2.kept in
           let truth_is : Converts g.program v scalar.Truth p.value i =
-              subst (λ ty. Converts g.program v (scalar_for g.frame.table ty) p.value i) cond_typed.test_is (stands_converts g.program v p.standing k p.value i both.1 can) in
+          subst (λ ty. Converts g.program v (scalar_for g.frame.table ty) p.value i) cond_typed.test_is (stands_converts g.program v p.standing k p.value i both.1 can) in
           let b : Bool = not (int_eq i (pos 0)) in
           let tests : TestIs g.program v (condition p.value) b = condition_tests g.program v p.value b (truth_tests g.program v p.value i truth_is) in
           let rest_of : List Stmt = arm_object ∷ both_arms ∷ rest in

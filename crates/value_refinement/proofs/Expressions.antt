@@ -1,5 +1,5 @@
 -- Every typed expression follows, and every reference leads to its place: by induction over the expression, one lemma a form.
-use Rattle.std.proofs.Common.{◌≡◌, ℕ, ℤ, Bool, true, false, not, IsTrue, List, [], ◌++◌, Option, Some, refl, sym, ◌∙◌, ap, subst, ◌⊎◌, inl, inr, ⊎_elim}
+use Rattle.std.proofs.Common.{◌≡◌, ℕ, ℤ, Bool, true, false, not, IsTrue, ◌++◌, refl, sym, ◌∙◌, ap, ⊎_elim}
 use Rattle.std.specs.Prelude.{if◌then◌else◌, ◌||◌}
 use Rattle.bit_data.specs.declared.FieldBits.{FieldBits}
 use Rattle.ivory_tree.specs.declared.PrefixOp.{PrefixOp}

@@ -1,8 +1,7 @@
 -- What a typed expression's value is, as an operand: a number of its kind, and no reference; and what its checks are.
-use Rattle.std.proofs.Common.{◌≡◌, ℕ, zero, suc, ◌+◌, ◌^◌, ◌<◌, ◌≤◌, ℤ, Bool, true, false, List, [], ◌∷◌, ◌++◌, length, map, All, Option, Some, None, refl, sym, ◌∙◌, ap, subst, arith}
+use Rattle.std.proofs.Common.{◌≡◌, ℕ, suc, ◌^◌, ◌<◌, ◌≤◌, ℤ, Bool, List, [], ◌∷◌, ◌++◌, length, map, Option, Some, None, refl, sym, ◌∙◌, ap, subst}
 use Rattle.std.specs.Prelude.{IsTrue}
 use Rattle.std.proofs.lemmas.List.Elements.{All-head, All-tail, All-cons, All-nil}
-use Rattle.iv_words.specs.Kinds.{in_range}
 use Rattle.iv_words.specs.declared.IntKind.{IntKind}
 use Rattle.area_types.specs.Syntax as types
 use Rattle.area_types.specs.Syntax.{ValueType}
@@ -20,7 +19,6 @@ use Rattle.core_meaning.specs.State.{State}
 use Rattle.core_meaning.specs.Values.{Value, Num, Ref}
 use Rattle.c_ast.specs.declared.CKind.TheVariants.{Scalar}
 use Rattle.c_ast.specs.declared.CScalar.TheVariants as scalar
-use Rattle.c_ast.specs.declared.CType.{CType}
 use Rattle.c_ast.specs.declared.CType.TheVariants as ctype
 use Rattle.c_ast.specs.Conversions.{can_hold}
 use Rattle.c_ast.specs.Syntax.{Expr, Stmt}
@@ -35,11 +33,11 @@ use Rattle.lower_types.specs.Types.{TypeTable, scalar_in, scalar_for, type_for}
 use Rattle.lower_values.specs.Expressions.{raw, index_piece}
 use Rattle.lower_values.specs.Frames.{kind_in, type_in}
 use Rattle.lower_values.specs.Pieces.{taken, atom}
-use Rattle.value_refinement.specs.FormLaws.{Operand}
+use Rattle.form_answers.specs.FormLaws.{Operand}
 use Rattle.value_refinement.specs.Laws.{Numbered, Stage, RawFollows, running}
 use Rattle.value_refinement.specs.Related.{Related}
 use Rattle.value_refinement.specs.Settings.{Setting, Set}
-use Rattle.value_refinement.specs.Standing.{ExactlyIs}
+use Rattle.form_answers.specs.Standing.{ExactlyIs}
 use Rattle.value_refinement.proofs.Operands.{as_piece, taken_follows, atom_follows, OperandFollows, OnIndex}
 use Rattle.value_refinement.proofs.Types.{given_holds}
 

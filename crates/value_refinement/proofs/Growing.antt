@@ -1,5 +1,5 @@
 -- The numbers of temporaries only grow.
-use Rattle.std.proofs.Common.{◌≡◌, ℕ, suc, ◌≤◌, Bool, true, false, Option, Some, None, refl, subst, arith}
+use Rattle.std.proofs.Common.{ℕ, ◌≤◌, Bool, true, false, Option, Some, None, arith}
 use Rattle.std.specs.Prelude.{if◌then◌else◌, ◌&&◌}
 use Rattle.iv_words.specs.declared.IntKind.{IntKind}
 use Rattle.bit_data.specs.declared.BitLayout.{BitLayout}

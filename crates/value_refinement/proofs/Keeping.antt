@@ -1,17 +1,16 @@
 -- What declarations, blocks and assignments of temporaries keep, and that a state stays related while names and objects are kept.
-use Rattle.std.proofs.Common.{◌≡◌, ◌≢◌, ℕ, suc, ◌+◌, ◌<◌, ◌≤◌, ℤ, Bool, true, false, List, [], ◌∷◌, length, Option, Some, None, Result, Ok, Err, refl, sym, ◌∙◌, ap, subst, arith}
-use Rattle.std.specs.Prelude.{if◌then◌else◌, slice_get}
-use Rattle.iv_words.specs.Words.{same_word}
+use Rattle.std.proofs.Common.{◌≡◌, ◌≢◌, ℕ, ◌<◌, ◌≤◌, ℤ, List, ◌∷◌, length, Some, refl, sym, ◌∙◌, ap, arith}
+use Rattle.std.specs.Prelude.{if◌then◌else◌}
 use Rattle.iv_words.proofs.Equality.{same_not}
 use Rattle.type_trees.specs.Layouts.{Metric}
-use Rattle.c_memory.specs.Abstract.{Operations, Same, Made, Left, Lawful}
+use Rattle.c_memory.specs.Abstract.{Operations, Same}
 use Rattle.c_ast.specs.declared.CScalar.{CScalar}
 use Rattle.c_ast.specs.declared.CBase.{CBase}
 use Rattle.c_ast.specs.Names.{named}
 use Rattle.c_ast.specs.Scalars.{metric_of}
 use Rattle.c_ast.specs.Syntax.{Name}
 use Rattle.c_meaning.specs.Memory.{CObjects, memory_of}
-use Rattle.c_meaning.specs.State.{Program, CState, Slot, Holding, Naming, with_name, declare, declare_object, leave}
+use Rattle.c_meaning.specs.State.{Program, CState, Slot, Holding, Naming, declare, declare_object}
 use Rattle.c_meaning.specs.Values.{CValue}
 use Rattle.lower_types.specs.Names.{local_name}
 use Rattle.value_refinement.specs.Kept.{Kept}

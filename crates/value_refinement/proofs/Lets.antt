@@ -1,14 +1,12 @@
 -- A `let` follows where its expression does: the declaration takes the statement's step, and its name stands for the value.
-use Rattle.std.proofs.Common.{◌≡◌, ◌≢◌, ℕ, zero, suc, ◌+◌, ◌<◌, ◌≤◌, ℤ, Bool, true, false, List, [], ◌∷◌, ◌++◌, Option, Some, None, Result, Ok, Err, refl, sym, ◌∙◌, ap, subst, arith, inl, inr, ⊎_elim, eq-eqb, eqb-true}
+use Rattle.std.proofs.Common.{◌≡◌, ℕ, zero, suc, ◌+◌, ◌≤◌, ℤ, Bool, true, false, List, [], ◌∷◌, ◌++◌, Option, Some, Result, Ok, Err, refl, sym, ◌∙◌, ap, subst, arith, inl, inr, ⊎_elim, eq-eqb, eqb-true}
 use Rattle.std.specs.Prelude.{if◌then◌else◌, not, ◌&&◌, ◌||◌, ◌==◌, ◌⊎◌, slice_get, Contains, IsTrue}
 use Rattle.std.specs.Option.{option_and_then}
 use Rattle.std.proofs.lemmas.List.{append_assoc}
-use Rattle.iv_words.specs.Words.{same_word}
-use Rattle.iv_words.proofs.Equality.{same_self, same_not}
+use Rattle.iv_words.proofs.Equality.{same_self}
 use Rattle.step_semantics.specs.Control.{Control, Falls}
 use Rattle.step_semantics.specs.Follows.{Follows}
-use Rattle.step_semantics.specs.Steps.{World, Progress, Finished, Part, bind, tick, ticks, change, after}
-use Rattle.step_semantics.specs.Takes.{Takes, Reaches}
+use Rattle.step_semantics.specs.Steps.{World, bind, tick, ticks}
 use Rattle.step_semantics.proofs.Paying.{pays_to}
 use Rattle.step_semantics.proofs.Leading.{leads_refl}
 use Rattle.run_records.specs.declared.Reason.TheVariants as reason
@@ -37,7 +35,6 @@ use Rattle.c_ast.specs.Structs.{tree}
 use Rattle.c_ast.specs.Targets.{table_of}
 use Rattle.c_ast.specs.declared.CKind.TheVariants.{Scalar}
 use Rattle.c_ast.specs.declared.CScalar.{CScalar}
-use Rattle.c_ast.specs.declared.CType.{CType}
 use Rattle.c_ast.specs.declared.CType.TheVariants as ctype
 use Rattle.c_ast.specs.Names.{named}
 use Rattle.c_ast.specs.StaticTypes.{PlaceType, Stored, same_base, same_scalar, of_pointee}
@@ -62,16 +59,15 @@ use Rattle.lower_types.specs.Types.{TypeTable, scalar_for, type_for, base_for}
 use Rattle.lower_values.specs.Expressions as lowered
 use Rattle.lower_values.specs.Expressions.{raw, local_value, local_place}
 use Rattle.lower_values.specs.Frames.{is_object, name_of, type_in}
-use Rattle.lower_values.specs.Pieces.{Piece, pad, paid, inline}
+use Rattle.lower_values.specs.Pieces.{Piece, paid}
 use Rattle.value_refinement.specs.Kept.{Kept}
-use Rattle.value_refinement.specs.Laws.{Stage, Goes, RawFollows, owing, spare, running}
+use Rattle.value_refinement.specs.Laws.{Stage, RawFollows, owing, spare, running}
 use Rattle.value_refinement.specs.Lets.{with_local, IsNewLocal, LetDone, let_statements}
 use Rattle.value_refinement.specs.Related.{is_constant, PointerIs, PlaceIs, NameStands, Related}
-use Rattle.value_refinement.specs.Settings.{Setting, Set, IsOld, HasCType}
-use Rattle.value_refinement.specs.Standing.{HasScalar}
+use Rattle.value_refinement.specs.Settings.{Setting, Set, HasCType}
 use Rattle.value_refinement.specs.Values.{Comes, StandsFor}
-use Rattle.value_refinement.proofs.Keeping.{kept_same, kept_twice, kept_less, kept_declared, older}
-use Rattle.value_refinement.proofs.Operands.{local_is_old, stands_assigned, name_stands, padded}
+use Rattle.value_refinement.proofs.Keeping.{kept_same, kept_twice, kept_less, kept_declared}
+use Rattle.value_refinement.proofs.Operands.{stands_assigned, name_stands, padded}
 use Rattle.value_refinement.proofs.Running.{runs_first, takes_const}
 use Rattle.value_refinement.proofs.Standings.{name_on, global_on, related_on}
 use Rattle.value_refinement.proofs.Types.{given_holds}
@@ -170,10 +166,10 @@ module _ (g : Setting) (set : Set g) (objects : Map) (s : State) (stage : Stage 
       let has : named u2.frames.own (local_name x) ≡ Some (Holding held) = named_here (local_name x) (Holding held) u.frames.own in
       let lives : lives u points.object ≡ true = objects_live (metric_of g.program.target) (CanHold (table_of g.program.target)) (memory_of g.program.target) (lawful_in (table_of g.program.target)) g.naming objects s.areas u.objects k points.object points.area related.both points.lives in
       let read : c.eval g.program (Read (Var (local_name x))) u2 ≡ Ok held =
-          ap (λ found. on_ok (or_outer g.program.unit.structs found (file_place g.program.unit.structs 0 g.program.unit.objects (local_name x))) (places.read g.program.target u2)) has
-          ∙ ap (λ l. let r : Result CValue Trouble = if l then Ok held else Err (Undefined reason.Dead) in r) lives in
+      ap (λ found. on_ok (or_outer g.program.unit.structs found (file_place g.program.unit.structs 0 g.program.unit.objects (local_name x))) (places.read g.program.target u2)) has
+      ∙ ap (λ l. let r : Result CValue Trouble = if l then Ok held else Err (Undefined reason.Dead) in r) lives in
       let pointer : PointerIs g objects s.areas u2 constant (Read (Var (local_name x))) k path =
-          record { object = points.object; area = points.area; lives = points.lives; content = points.content; leads = points.leads; is = read } in
+      record { object = points.object; area = points.area; lives = points.lives; content = points.content; leads = points.leads; is = read } in
       record {
         value = held;
         gives = points.is;
@@ -251,7 +247,7 @@ module _ (g : Setting) (set : Set g) (objects : Map) (s : State) (stage : Stage 
           let d : Declares u p.value v = declares u p v related_u gives (comes.stands u (kept_same g.program p.next u)) in
           let u2 : CState = declare (local_name x) d.held u in
           let done : LetDone g objects s x e t Falls (with_name x v s) Falls u2 =
-              (v, gives, refl, kept_twice g.program x x t u u2 (omega arith) (kept_less g.program x from t u (omega (arith, new.below, le)) comes.kept) (kept_declared g.program x x d.held u (omega arith)), related_behind u d.held v related_u d.stands) in
+          (v, gives, refl, kept_twice g.program x x t u u2 (omega arith) (kept_less g.program x from t u (omega (arith, new.below, le)) comes.kept) (kept_declared g.program x x d.held u (omega arith)), related_behind u d.held v related_u d.stands) in
           padded g s (LetDone g objects s x e t) (tick (naming x v)) (statement ∷ []) 0 0 (spare p) u z p.owed
           (λ i. pays_to g.frame.skip (LetDone g objects s x e t) 1 1 0 0 0 (naming x v) z s (omega arith) (omega arith) (λ j. running g (statement ∷ []) j z u) (λ j. running g [] j z u2)
           (runs_first g 1 statement [] z u u2 (takes_const g z u (local_name x) (type_in g.frame (type_of e)) p.value d.value d.held d.gives d.assigned))

@@ -1,6 +1,6 @@
 -- Literals: a constant stands exactly for its number, and a negative one, as a value of its kind, for its own.
-use Rattle.std.proofs.Common.{◌≡◌, ℕ, zero, suc, ◌-◌, ◌^◌, ◌<◌, ◌≤◌, ℤ, pos, negsuc, neg_ℤ, Bool, true, false, IsTrue, Option, Some, None, refl, sym, ◌∙◌, ap, subst, arith}
-use Rattle.std.specs.Prelude.{if◌then◌else◌, ◌||◌, ◌&&◌, nat_lt, IsSome}
+use Rattle.std.proofs.Common.{◌≡◌, ℕ, suc, ◌-◌, ◌^◌, ◌<◌, ◌≤◌, ℤ, pos, negsuc, Bool, true, false, IsTrue, Some, refl, sym, ◌∙◌, ap, subst, arith}
+use Rattle.std.specs.Prelude.{if◌then◌else◌, ◌||◌, nat_lt}
 use Rattle.std.specs.Option.{option_map, option_and_then}
 use Rattle.std.proofs.lemmas.Bool.{ltb-false, ltb-true}
 use Rattle.std.proofs.lemmas.Int.{ints}
@@ -9,7 +9,6 @@ use Rattle.iv_words.specs.Kinds.{in_range_of, in_range, width, is_signed}
 use Rattle.iv_words.specs.declared.IntKind.{IntKind}
 use Rattle.iv_words.specs.declared.IntKind.TheVariants.{U8, U16, U32, U64, I8, I16, I32, I64}
 use Rattle.iv_words.proofs.Ranges.{powers_grow}
-use Rattle.index_types.specs.Indices.{is_index}
 use Rattle.area_types.specs.Syntax as types
 use Rattle.area_types.specs.Syntax.{ValueType}
 use Rattle.core_tree.specs.Syntax as core
@@ -19,7 +18,7 @@ use Rattle.core_tree.specs.Types.{is_value}
 use Rattle.core_meaning.specs.Expressions.{eval}
 use Rattle.core_meaning.specs.Gives.{Gives}
 use Rattle.core_meaning.specs.State.{State}
-use Rattle.core_meaning.specs.Values.{Value, Num, Ref}
+use Rattle.core_meaning.specs.Values.{Value, Num}
 use Rattle.source_types.specs.Values.{is_plain, is_index_type}
 use Rattle.c_ast.specs.declared.CScalar.{CScalar}
 use Rattle.c_ast.specs.declared.CScalar.TheVariants as scalar
@@ -32,8 +31,8 @@ use Rattle.c_ast.specs.declared.Suffix.TheVariants.{Plain, U}
 use Rattle.c_ast.specs.Conversions.{can_hold, constant_type, constant_type_in}
 use Rattle.c_ast.specs.StaticTypes as static
 use Rattle.c_ast.specs.StaticTypes.{Arithmetic, of_cast, of_unary, of_binary, of_both}
-use Rattle.c_ast.specs.Syntax.{Expr, Number, Unary, Binary, Cast}
-use Rattle.c_ast.specs.Targets.{table_of, arith_bits, arith_signed}
+use Rattle.c_ast.specs.Syntax.{Expr, Number, Unary, Binary}
+use Rattle.c_ast.specs.Targets.{table_of, arith_bits}
 use Rattle.c_meaning.specs.Expressions.{static_type}
 use Rattle.c_meaning.specs.State.{Program, CState}
 use Rattle.overflow_checks.proofs.Constants.{IsTyped, plain_typed, unsigned_typed, typed_is_some}
@@ -45,17 +44,17 @@ use Rattle.overflow_checks.specs.Parts.{cast_to}
 use Rattle.area_objects.specs.Both.{Map}
 use Rattle.lower_types.specs.Constants.{constant, negative, signed_limit}
 use Rattle.lower_types.specs.Types.{scalar_for}
-use Rattle.lower_values.specs.Expressions.{literal, value_piece, raw}
+use Rattle.lower_values.specs.Expressions.{literal, value_piece}
 use Rattle.lower_values.specs.Frames.{kind_in}
 use Rattle.lower_values.specs.Pieces.{is_atom}
 use Rattle.value_refinement.specs.Laws.{Stage, RawFollows}
 use Rattle.value_refinement.specs.Related.{Related}
 use Rattle.value_refinement.specs.Settings.{Setting, Set}
-use Rattle.value_refinement.specs.Standing.{HasScalar, ExactlyIs}
+use Rattle.form_answers.specs.Standing.{HasScalar, ExactlyIs}
 use Rattle.value_refinement.specs.Values.{StandsFor}
 use Rattle.value_refinement.proofs.Names.{Runs, ready}
 use Rattle.value_refinement.proofs.Operands.{as_raw}
-use Rattle.value_refinement.proofs.RangeTests.{signed_constant, opposite_has}
+use Rattle.form_answers.proofs.RangeTests.{signed_constant, opposite_has}
 use Rattle.value_refinement.proofs.Types.{scalar_holds}
 
 -- ---- ranges

@@ -1,5 +1,5 @@
 -- `&&` and `||`: the left operand in an object, which the right one, in a block, is assigned to where the left one leaves the truth open.
-use Rattle.std.proofs.Common.{◌≡◌, ℕ, zero, suc, ◌+◌, ◌*◌, ◌<◌, ◌≤◌, ℤ, pos, negsuc, Bool, true, false, List, [], ◌∷◌, ◌++◌, length, Option, Some, None, Ok, refl, sym, ◌∙◌, ap, subst, arith, append_assoc}
+use Rattle.std.proofs.Common.{◌≡◌, ℕ, zero, suc, ◌+◌, ◌≤◌, ℤ, pos, negsuc, Bool, true, false, List, [], ◌∷◌, ◌++◌, length, Option, Some, refl, sym, ◌∙◌, ap, subst, arith, append_assoc}
 use Rattle.std.specs.Prelude.{if◌then◌else◌, not, IsTrue}
 use Rattle.std.specs.Ordering.{int_eq}
 use Rattle.std.proofs.lemmas.Int.{ints}
@@ -31,23 +31,22 @@ use Rattle.c_ast.specs.declared.CKind.TheVariants.{Scalar}
 use Rattle.c_ast.specs.declared.CScalar.{CScalar}
 use Rattle.c_ast.specs.declared.CScalar.TheVariants as scalar
 use Rattle.c_ast.specs.Conversions.{can_hold}
-use Rattle.c_ast.specs.Syntax.{Name, Expr, Read, Place, Var, One, Stmt, Object, If}
+use Rattle.c_ast.specs.Syntax.{Name, One, Stmt, Object, If}
 use Rattle.c_ast.specs.Targets.{table_of}
 use Rattle.c_ast.specs.View.{stmts_from}
 use Rattle.c_meaning.specs.State.{CState, leave}
-use Rattle.c_meaning.specs.Statements.{exec_all}
 use Rattle.c_meaning.specs.Values.{CValue, is_true, on_ok}
 use Rattle.lower_types.specs.Names.{local_name}
 use Rattle.lower_types.specs.Types.{scalar_for}
 use Rattle.lower_values.specs.Choices.{is_logic, is_truth_chain, left_object, goes_on, place_of, into, logic}
 use Rattle.lower_values.specs.Expressions.{raw}
 use Rattle.lower_values.specs.Frames.{base_in}
-use Rattle.lower_values.specs.Pieces.{Piece, Exact}
+use Rattle.lower_values.specs.Pieces.{Piece}
 use Rattle.value_refinement.specs.Kept.{Kept}
 use Rattle.value_refinement.specs.Laws.{owing, spare, Stage, running, RawFollows}
 use Rattle.value_refinement.specs.Related.{Related}
 use Rattle.value_refinement.specs.Settings.{Setting, Set}
-use Rattle.value_refinement.specs.Standing.{Converts, Stands, TestIs}
+use Rattle.form_answers.specs.Standing.{Converts, Stands, TestIs}
 use Rattle.value_refinement.specs.Values.{Simple, Comes}
 use Rattle.value_refinement.proofs.Arms.{no_reference, stands_converts, truth_reaches, owing_few, InObject, GoesOn, ObjectFollows, given_held, LeftIn, arm_follows}
 use Rattle.value_refinement.proofs.Growing.{object_grows, raw_grows}
@@ -113,7 +112,7 @@ module _ (g : Setting) (set : Set g) (objects : Map) (s : State) (stage : Stage 
     chain_goes goes v u gives kept h m w =
         let n : ℤ = h.number in
         let there : InObject g.program scalar.Truth t raw_first (Num n) u =
-            subst (λ k. InObject g.program k t raw_first (Num n) u) (truth_scalar (type_of first) truth) (subst (λ a. InObject g.program (scalar_for g.frame.table (type_of first)) t raw_first a u) h.is h) in
+        subst (λ k. InObject g.program k t raw_first (Num n) u) (truth_scalar (type_of first) truth) (subst (λ a. InObject g.program (scalar_for g.frame.table (type_of first)) t raw_first a u) h.is h) in
         let o : Onward post part rest x y n u w = goes n u (subst (λ a. Gives g.frame.core g.outcome s first a) h.is gives) kept there w in
         subst (λ a. Follows g.frame.skip post x y m (go a m w s) (λ j. running g rest j w u)) (sym h.is)
         (subst (λ r. Follows g.frame.skip post x y m r (λ j. running g rest j w u)) (sym (is n m w s))
@@ -132,7 +131,7 @@ module _ (g : Setting) (set : Set g) (objects : Map) (s : State) (stage : Stage 
         let can : IsTrue (can_hold (table_of g.program.target) (Scalar k) n) = given_held g set objects s stage first typed (Num n) n refl gives in
         let both : Simple g.program u p.standing p.owed p.value × Stands p.standing g.program u k p.value n = comes.stands u (kept_same g.program p.next u) in
         let is_here : Converts g.program u scalar.Truth p.value n =
-            subst (λ c. Converts g.program u c p.value n) (truth_scalar (type_of first) truth) (stands_converts g.program u p.standing k p.value n both.1 can) in
+        subst (λ c. Converts g.program u c p.value n) (truth_scalar (type_of first) truth) (stands_converts g.program u p.standing k p.value n both.1 can) in
         let d = takes_object_with g w u p.next scalar.Truth p.value n is_here (subst (λ c. IsTrue (can_hold (table_of g.program.target) (Scalar c) n)) (truth_scalar (type_of first) truth) can) in
         let v : CState = d.0 in
         let there : InObject g.program scalar.Truth t (left_object g.frame false p) (Num n) v = record {
@@ -232,7 +231,7 @@ module _ (g : Setting) (set : Set g) (objects : Map) (s : State) (stage : Stage 
       tells : Gives g.frame.core g.outcome s first (Num n) → TestIs g.program u left_one.value (not (int_eq n (pos 0)))
       tells gives =
           let can : IsTrue (can_hold (table_of g.program.target) (Scalar scalar.Truth) n) =
-              subst (λ c. IsTrue (can_hold (table_of g.program.target) (Scalar c) n)) (truth_scalar (type_of first) truth) (given_held g set objects s stage first typed (Num n) n refl gives) in
+          subst (λ c. IsTrue (can_hold (table_of g.program.target) (Scalar c) n)) (truth_scalar (type_of first) truth) (given_held g set objects s stage first typed (Num n) n refl gives) in
           let held : ObjectIs g.program u (local_name there.temporary) scalar.Truth there.object (Some n) = subst (λ i. ObjectIs g.program u (local_name there.temporary) scalar.Truth there.object (Some i)) same_number there.holds in
           subst (λ value. TestIs g.program u value (not (int_eq n (pos 0)))) (sym there.value_is)
           (ap (λ r. on_ok r is_true) (object_read g.program u (local_name there.temporary) scalar.Truth there.object n held can).gives)
@@ -259,11 +258,11 @@ module _ (g : Setting) (set : Set g) (objects : Map) (s : State) (stage : Stage 
         let next : Value → Part State Value = λ v. on_truth g.frame.core v (λ holds. tick (parts holds)) in
         let part : ℤ → Part State A = λ i. bind (parts (not (int_eq i (pos 0)))) go in
         let onto : (i : ℤ) (u : CState) → Gives g.frame.core g.outcome s first (Num i) → Kept g.program from t u → InObject g.program scalar.Truth t left_one (Num i) u → (v : World) → Onward post part (assigned ∷ rest) x y i u v = λ i u gives kept there v.
-            record {
-              later = λ j. after (taken (opens (not (int_eq i (pos 0)))) j v u) (onward (running g rest));
-              reaches = truth_reaches g (goes_on op left_one.value) (opens (not (int_eq i (pos 0)))) taken rest v u (tests i u kept there gives);
-              follows = λ m. chooses i u kept there gives m v (not (int_eq i (pos 0))) refl;
-            } in
+        record {
+          later = λ j. after (taken (opens (not (int_eq i (pos 0)))) j v u) (onward (running g rest));
+          reaches = truth_reaches g (goes_on op left_one.value) (opens (not (int_eq i (pos 0)))) taken rest v u (tests i u kept there gives);
+          follows = λ m. chooses i u kept there gives m v (not (int_eq i (pos 0))) refl;
+        } in
         subst (λ r. Follows g.frame.skip post x y n r (λ j. running g ((logic op left_one right_one).before ++ rest) j w t)) (sym (after_after (eval g.frame.core g.outcome first n w s) next go))
         (subst (λ ss. Follows g.frame.skip post x y n (bind (eval g.frame.core g.outcome first) (λ v. bind (next v) go) n w s) (λ j. running g ss j w t)) (sym (append_assoc left_one.before (assigned ∷ []) rest))
         (left_follows first typed truth A post (λ v. bind (next v) go) part (λ i m v r. tick_then (parts (not (int_eq i (pos 0)))) go m v r) (assigned ∷ rest) x y from low t related

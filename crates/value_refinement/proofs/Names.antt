@@ -1,42 +1,38 @@
 -- Names and literals: nothing runs before them, and they stand for their values in every state that stays related.
-use Rattle.std.proofs.Common.{◌≡◌, ℕ, ◌+◌, ◌≤◌, ℤ, Bool, true, false, List, [], ◌∷◌, ◌++◌, Option, Some, None, Ok, Err, Result, refl, sym, ◌∙◌, ap, subst, arith}
+use Rattle.std.proofs.Common.{◌≡◌, ℕ, ◌+◌, ℤ, Bool, true, false, List, [], ◌++◌, Option, Some, None, Ok, Err, Result, refl, sym, ◌∙◌, ap, subst, arith}
 use Rattle.std.specs.Prelude.{if◌then◌else◌, is_some, slice_get}
 use Rattle.step_semantics.specs.Control.{Control}
 use Rattle.step_semantics.specs.Follows.{Follows}
-use Rattle.step_semantics.specs.Steps.{World, Progress, Part, bind, after, give, ticks}
+use Rattle.step_semantics.specs.Steps.{World, Progress, Part, bind, after, give}
 use Rattle.step_semantics.proofs.Following.{eased}
 use Rattle.type_trees.specs.Trees.{Leaf, Many, Struct}
 use Rattle.area_types.specs.Syntax.{ValueType}
-use Rattle.source_types.specs.Values.{is_reference}
 use Rattle.core_tree.specs.Syntax as core
 use Rattle.core_tree.specs.Syntax.{ExprCore, Label, type_of}
 use Rattle.core_tree.specs.TypedExpressions.{ExprTyped}
-use Rattle.core_meaning.specs.Areas.{Areas, type_at}
+use Rattle.core_meaning.specs.Areas.{type_at}
 use Rattle.core_meaning.specs.Checks.{lost, on_some}
 use Rattle.core_meaning.specs.Expressions.{found, eval}
-use Rattle.core_meaning.specs.Gives.{Leads, NameGives, Gives}
+use Rattle.core_meaning.specs.Gives.{NameGives, Gives}
 use Rattle.core_meaning.specs.State.{State, value_of}
-use Rattle.core_meaning.specs.Values as source
 use Rattle.core_meaning.specs.Values.{Value, Num, Ref}
 use Rattle.c_ast.specs.declared.CKind.TheVariants.{Scalar}
 use Rattle.c_ast.specs.declared.CScalar.{CScalar}
-use Rattle.c_ast.specs.Syntax.{Name, Expr, Read, Address, Place, Var, At, Stmt}
+use Rattle.c_ast.specs.Syntax.{Name, Expr, Read, Address, Place, Var, At}
 use Rattle.c_meaning.specs.Expressions as c
 use Rattle.c_meaning.specs.Places.{Lvalue, Known, Located, address_of}
-use Rattle.c_meaning.specs.State.{Program, CState}
+use Rattle.c_meaning.specs.State.{CState}
 use Rattle.c_meaning.specs.Values as target
 use Rattle.c_meaning.specs.Values.{CValue, Trouble, on_ok}
 use Rattle.area_objects.specs.Both.{Map}
 use Rattle.lower_types.specs.Types.{scalar_for}
-use Rattle.lower_values.specs.Expressions.{raw, place, value_piece, place_piece, reference, reference_to, local_value, local_place, area_place}
+use Rattle.lower_values.specs.Expressions.{raw, place, value_piece, place_piece, reference, local_value, local_place, area_place}
 use Rattle.lower_values.specs.Frames.{is_object, name_of}
-use Rattle.lower_values.specs.Pieces.{Piece, PlacePiece, Exact, is_atom}
-use Rattle.value_refinement.specs.Kept.{Kept}
-use Rattle.value_refinement.specs.Laws.{Stage, Goes, GoesTo, RawFollows, PlaceFollows, running, spare, owing}
-use Rattle.value_refinement.specs.Related.{is_constant, PointerIs, PlaceIs, NameStands, Related}
+use Rattle.lower_values.specs.Pieces.{Piece, PlacePiece}
+use Rattle.value_refinement.specs.Laws.{RawFollows, PlaceFollows, running}
+use Rattle.value_refinement.specs.Related.{is_constant, PlaceIs, NameStands, Related}
 use Rattle.value_refinement.specs.Settings.{Setting, Set}
-use Rattle.value_refinement.specs.Standing.{HasScalar, ExactlyIs}
-use Rattle.value_refinement.specs.Values.{Comes, Arrives, StandsFor, Simple}
+use Rattle.value_refinement.specs.Values.{Comes, Arrives, StandsFor}
 use Rattle.value_refinement.proofs.Keeping.{kept_same}
 use Rattle.value_refinement.proofs.Operands.{Onward, PieceFollows, as_piece, as_raw}
 use Rattle.value_refinement.proofs.Standings.{related_on}
@@ -57,12 +53,12 @@ module _ (g : Setting) (set : Set g) (objects : Map) (s : State) where
   ready part given ty d runs stands A post go rest x y from le t related onward n w =
       runs A post go x y (λ j. running g rest j w t) n w
       (λ v gives.
-          eased g.frame.skip post (x + 0) y x y n (go v n w s) (λ j. running g rest j w t) (omega arith) (omega arith)
-          (onward v t gives (record {
-            grows = omega arith;
-            kept = kept_same g.program from t;
-            stands = λ z kept. stands v gives z from (related_on g set objects s from le t z kept related);
-          }) n w))
+      eased g.frame.skip post (x + 0) y x y n (go v n w s) (λ j. running g rest j w t) (omega arith) (omega arith)
+      (onward v t gives (record {
+        grows = omega arith;
+        kept = kept_same g.program from t;
+        stands = λ z kept. stands v gives z from (related_on g set objects s from le t z kept related);
+      }) n w))
 
   -- nor before a place
   pub ready_place : (e : ExprCore) (to : Place) → Runs (eval g.frame.core g.outcome e) (Gives g.frame.core g.outcome s e) → ((from : ℕ) → place g.frame e from ≡ place_piece to from)
@@ -175,7 +171,7 @@ module _ (g : Setting) (set : Set g) (objects : Map) (s : State) where
       on k path u gives arrives m z =
           let here : Comes g objects s from (reference (place g.frame e from)) (type_of e) t (Ref k path) u = record { grows = arrives.grows; kept = arrives.kept; stands = λ v kept. (arrives.stands v kept).pointer } in
           let onward : Onward g set objects s post go rest x y from (reference (place g.frame e from)) (Gives g.frame.core g.outcome s e) (type_of e) t =
-              subst (λ (q : Piece). Onward g set objects s post go rest x y from q (Gives g.frame.core g.outcome s e) (type_of e) t) (is from) goes.by in
+          subst (λ (q : Piece). Onward g set objects s post go rest x y from q (Gives g.frame.core g.outcome s e) (type_of e) t) (is from) goes.by in
           eased g.frame.skip post (x + 0) y x y m (go (Ref k path) m z s) (λ j. running g rest j z u) (omega arith) (omega arith) (onward (Ref k path) u gives here m z)
 
   -- ---- the last of a chain

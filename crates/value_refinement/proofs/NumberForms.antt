@@ -1,12 +1,12 @@
 -- Forms that answer a number: the tests of their checks stop where the source stops, and otherwise pay for the form's step.
-use Rattle.std.proofs.Common.{◌≡◌, ◌≢◌, ℕ, zero, suc, ◌+◌, ◌*◌, ◌^◌, ◌<◌, ◌≤◌, ℤ, Bool, true, false, List, [], ◌∷◌, ◌++◌, length, map, All, Option, Some, None, Result, Ok, Err, refl, sym, ◌∙◌, ap, subst, arith}
-use Rattle.std.specs.Prelude.{if◌then◌else◌, not, ◌&&◌, ◌||◌, IsTrue}
+use Rattle.std.proofs.Common.{◌≡◌, ℕ, zero, suc, ◌+◌, ◌^◌, ◌<◌, ◌≤◌, ℤ, Bool, true, false, List, [], ◌∷◌, ◌++◌, length, Option, Ok, Err, refl, sym, ◌∙◌, ap, subst, arith}
+use Rattle.std.specs.Prelude.{if◌then◌else◌, not, ◌||◌, IsTrue}
 use Rattle.std.specs.List.{list_any}
 use Rattle.std.proofs.lemmas.List.Elements.{All-head, All-tail}
 use Rattle.step_semantics.specs.Control.{Control}
 use Rattle.step_semantics.specs.Follows.{Follows, Ends, Owed}
 use Rattle.step_semantics.specs.Steps.{World, Progress, Halted, Exhausted, FailedCheck, Part, bind, tick, ticks, give, halt, after}
-use Rattle.step_semantics.specs.Takes.{Takes, Reaches}
+use Rattle.step_semantics.specs.Takes.{Reaches}
 use Rattle.step_semantics.proofs.Paying.{pays_to, reaches_more}
 use Rattle.step_semantics.proofs.Following.{eased}
 use Rattle.core_tree.specs.Syntax.{Label}
@@ -22,13 +22,13 @@ use Rattle.c_meaning.specs.State.{CState}
 use Rattle.c_meaning.specs.Values.{CValue}
 use Rattle.area_objects.specs.Both.{Map}
 use Rattle.area_objects.proofs.Outside.{areas_seen}
-use Rattle.lower_values.specs.Pieces.{pad, Standing, is_exact}
+use Rattle.lower_values.specs.Pieces.{pad}
 use Rattle.lower_values.specs.Tests.{test_for, test, tests, are_none}
-use Rattle.value_refinement.specs.Answering.{GuardTells, GuardsTell}
+use Rattle.form_answers.specs.Answering.{GuardTells, GuardsTell}
 use Rattle.value_refinement.specs.Laws.{Numbered, owing, running}
 use Rattle.value_refinement.specs.Related.{Related}
 use Rattle.value_refinement.specs.Settings.{Setting, Set}
-use Rattle.value_refinement.specs.Standing.{TestIs}
+use Rattle.form_answers.specs.Standing.{TestIs}
 use Rattle.value_refinement.proofs.Running.{runs_first, takes_pad, takes_test, stops_test, test_waits}
 
 -- ---- areas are seen alike
@@ -127,7 +127,7 @@ module _ (g : Setting) (guard : SiteKind → Expr) (is_settled : SiteKind → Bo
         suc h.steps,
         omega (arith, h.few),
         one_more h.steps (λ j. running g ((test g.frame (guard c.kind) c ∷ tests_on cs) ++ rest) j w u) (λ j. running g (tests_on cs ++ rest) j w u) (λ j. running g ((if g.frame.skip h.site then pad else test_for h.expr h.site) ∷ h.more) j w u)
-        (one_test c t (g.frame.skip c.site) (tests_on cs ++ rest)) h.reaches,
+            (one_test c t (g.frame.skip c.site) (tests_on cs ++ rest)) h.reaches,
       )
 
     pub first_stops : (cs : List Check) (rest : List Stmt) → Numbered cs → IsTrue (covered (Err failed) cs) → GuardsTell g.program u guard is_settled (Err failed) cs → Stops cs rest

@@ -1,8 +1,7 @@
 -- Forms on one number and on two: where what a form answers is known of operands that stand exactly, its C follows it.
-use Rattle.std.proofs.Common.{◌≡◌, ℕ, zero, suc, ◌+◌, ◌*◌, ◌^◌, ◌<◌, ◌≤◌, ℤ, Bool, true, false, List, [], ◌∷◌, ◌++◌, length, Option, Some, None, Result, Ok, Err, refl, sym, ◌∙◌, ap, subst, arith}
-use Rattle.std.specs.Prelude.{if◌then◌else◌, IsTrue}
+use Rattle.std.proofs.Common.{◌≡◌, ℕ, zero, suc, ◌+◌, ◌≤◌, ℤ, Bool, true, false, List, ◌++◌, length, Ok, refl, sym, ◌∙◌, ap, subst, arith}
+use Rattle.std.specs.Prelude.{if◌then◌else◌}
 use Rattle.std.proofs.lemmas.List.{append_assoc}
-use Rattle.step_semantics.specs.Control.{Control}
 use Rattle.step_semantics.specs.Follows.{Follows}
 use Rattle.step_semantics.specs.Steps.{World, Part, bind, tick, ticks, give, after}
 use Rattle.step_semantics.proofs.Equations.{after_after}
@@ -12,25 +11,18 @@ use Rattle.core_tree.specs.Syntax.{Label}
 use Rattle.core_tree.specs.declared.SiteKind.{SiteKind}
 use Rattle.core_meaning.specs.Checks.{Answer, answering, on_number}
 use Rattle.core_meaning.specs.State.{State}
-use Rattle.core_meaning.specs.Values.{Value, Num, Ref}
-use Rattle.c_ast.specs.declared.CKind.TheVariants.{Scalar}
-use Rattle.c_ast.specs.declared.CScalar.{CScalar}
-use Rattle.c_ast.specs.declared.CType.TheVariants as ctype
-use Rattle.c_ast.specs.Conversions.{can_hold}
+use Rattle.core_meaning.specs.Values.{Value, Num}
 use Rattle.c_ast.specs.Syntax.{Expr, Stmt}
-use Rattle.c_ast.specs.Targets.{table_of}
 use Rattle.c_meaning.specs.State.{Program, CState}
-use Rattle.c_meaning.specs.Values.{CValue}
 use Rattle.area_objects.specs.Both.{Map}
 use Rattle.lower_types.specs.Types.{scalar_for}
-use Rattle.lower_values.specs.Pieces.{Piece, Standing, Exact, Same, Near, taken, is_exact}
+use Rattle.lower_values.specs.Pieces.{Piece, Standing, Exact, Same, Near, is_exact}
 use Rattle.lower_values.specs.Tests.{tests, are_none}
-use Rattle.value_refinement.specs.Answering.{GuardsTell}
+use Rattle.form_answers.specs.Answering.{GuardsTell}
 use Rattle.value_refinement.specs.Kept.{Kept}
 use Rattle.value_refinement.specs.Laws.{Numbered, owing, running}
-use Rattle.value_refinement.specs.Related.{Related}
 use Rattle.value_refinement.specs.Settings.{Setting, Set}
-use Rattle.value_refinement.specs.Standing.{ExactlyIs, Stands}
+use Rattle.form_answers.specs.Standing.{ExactlyIs, Stands}
 use Rattle.value_refinement.specs.Values.{Comes, Simple}
 use Rattle.value_refinement.proofs.Keeping.{kept_twice, kept_same}
 use Rattle.value_refinement.proofs.NumberForms.{answer_follows}
@@ -96,8 +88,8 @@ module _ (g : Setting) (set : Set g) (objects : Map) (s : State) where
               answer_follows g set objects s (guard (q from).value) (is_settled (q from).value) u (related_on g set objects s from le t u stood.kept related) post go rest x y 0 l small few (answer a)
               (tells u (q from).value a is (stood.stands u (kept_same g.program (q from).next u)))
               (λ v e i r.
-                  subst (λ c. Follows g.frame.skip post c y i (ticks (owing (are_none (row (q from).value))) (go (Num v)) i r s) (λ j. running g rest j r u)) (sym (spare_is x (are_none (row (q from).value)) st inexact))
-                  (onward (Num v) u (gives a v is e) (comes a u is stood v e) i r))
+              subst (λ c. Follows g.frame.skip post c y i (ticks (owing (are_none (row (q from).value))) (go (Num v)) i r s) (λ j. running g rest j r u)) (sym (spare_is x (are_none (row (q from).value)) st inexact))
+              (onward (Num v) u (gives a v is e) (comes a u is stood v e) i r))
               m z
 
     -- with a step alone
@@ -135,9 +127,9 @@ module _ (g : Setting) (set : Set g) (objects : Map) (s : State) where
       (result : Value → Type 0) (to : ValueType) (st : Standing) (near : st ≡ Near) (value : Expr → Expr → Expr)
       (l : Label) (small : Numbered l.checks) (few : length l.checks ≤ 4) (guard : Expr → Expr → SiteKind → Expr) (is_settled : Expr → Expr → SiteKind → Bool) (answer : ℤ → ℤ → Answer)
       (tells : (w : CState) (d e : Expr) (a b : ℤ) → left_given (Num a) → right_given (Num b) → ExactlyIs g.program w (scalar_for g.frame.table left_type) d a → ExactlyIs g.program w (scalar_for g.frame.table right_type) e b
-          → GuardsTell g.program w (guard d e) (is_settled d e) (answer a b) l.checks)
+      → GuardsTell g.program w (guard d e) (is_settled d e) (answer a b) l.checks)
       (stands : (w : CState) (d e : Expr) (a b v : ℤ) → left_given (Num a) → right_given (Num b) → ExactlyIs g.program w (scalar_for g.frame.table left_type) d a → ExactlyIs g.program w (scalar_for g.frame.table right_type) e b
-          → answer a b ≡ Ok v → Stands st g.program w (scalar_for g.frame.table to) (value d e) v)
+      → answer a b ≡ Ok v → Stands st g.program w (scalar_for g.frame.table to) (value d e) v)
       (gives : (a b v : ℤ) → left_given (Num a) → right_given (Num b) → answer a b ≡ Ok v → result (Num v)) where
     inexact : is_exact st ≡ false
     inexact = ap is_exact near
@@ -175,11 +167,10 @@ module _ (g : Setting) (set : Set g) (objects : Map) (s : State) where
         comes a u is stood b u2 is2 stood2 v e = record {
           grows = omega (arith, stood.grows, stood2.grows);
           kept = kept_twice g.program from (p from).next t u u2 stood.grows stood.kept stood2.kept;
-          stands = λ z kept.
-              (
-                simple z (are_none (pair_row from)) (value (p from).value (second from).value),
-                stands z (p from).value (second from).value a b v is is2 (stood.stands z (kept_twice g.program (p from).next (second from).next u u2 z stood2.grows stood2.kept kept)) (stood2.stands z kept) e,
-              );
+          stands = λ z kept. (
+            simple z (are_none (pair_row from)) (value (p from).value (second from).value),
+            stands z (p from).value (second from).value a b v is is2 (stood.stands z (kept_twice g.program (p from).next (second from).next u u2 z stood2.grows stood2.kept kept)) (stood2.stands z kept) e,
+          );
         }
 
         on_right : (a : ℤ) (u : CState) → left_given (Num a) → Stood g set objects s from (p from) left_type t a u → (b : ℤ) (u2 : CState) → right_given (Num b) → Stood g set objects s (p from).next (second from) right_type u b u2 → (m : ℕ) (z : World)
@@ -189,8 +180,8 @@ module _ (g : Setting) (set : Set g) (objects : Map) (s : State) where
             answer_follows g set objects s (guard (p from).value (second from).value) (is_settled (p from).value (second from).value) u2 (related_on g set objects s from le t u2 kept related) post go rest x y 0 l small few (answer a b)
             (tells u2 (p from).value (second from).value a b is is2 (stood.stands u2 stood2.kept) (stood2.stands u2 (kept_same g.program (second from).next u2)))
             (λ v e i r.
-                subst (λ c. Follows g.frame.skip post c y i (ticks (owing (are_none (pair_row from))) (go (Num v)) i r s) (λ j. running g rest j r u2)) (sym (spare_is x (are_none (pair_row from)) st inexact))
-                (onward (Num v) u2 (gives a b v is is2 e) (comes a u is stood b u2 is2 stood2 v e) i r))
+            subst (λ c. Follows g.frame.skip post c y i (ticks (owing (are_none (pair_row from))) (go (Num v)) i r s) (λ j. running g rest j r u2)) (sym (spare_is x (are_none (pair_row from)) st inexact))
+            (onward (Num v) u2 (gives a b v is is2 e) (comes a u is stood b u2 is2 stood2 v e) i r))
             m z
 
         on_left : (a : ℤ) (u : CState) → left_given (Num a) → Stood g set objects s from (p from) left_type t a u → (m : ℕ) (z : World)

@@ -1,5 +1,5 @@
 -- Objects of one scalar that temporaries name: made with a first value or without, read, assigned, and still there behind a block.
-use Rattle.std.proofs.Common.{◌≡◌, ◌≢◌, ℕ, suc, ◌+◌, ◌<◌, ◌≤◌, ℤ, Bool, true, false, List, [], ◌∷◌, ◌++◌, length, map, Option, Some, None, Result, Ok, Err, refl, sym, ◌∙◌, ap, subst, arith}
+use Rattle.std.proofs.Common.{◌≡◌, ◌≢◌, ℕ, ◌+◌, ◌<◌, ◌≤◌, ℤ, Bool, true, false, List, [], ◌∷◌, ◌++◌, length, map, Option, Some, None, Result, Ok, Err, refl, ◌∙◌, ap, arith}
 use Rattle.std.specs.Prelude.{if◌then◌else◌, IsTrue}
 use Rattle.std.specs.Option.{option_map, option_and_then}
 use Rattle.iv_words.specs.Words.{same_word}
@@ -7,14 +7,13 @@ use Rattle.iv_words.proofs.Equality.{same_self}
 use Rattle.type_trees.specs.Trees.{Leaf}
 use Rattle.type_trees.specs.Values.{cells}
 use Rattle.step_semantics.specs.Control.{Falls}
-use Rattle.step_semantics.specs.Steps.{World, Finished, Part, by_state, change, tick}
+use Rattle.step_semantics.specs.Steps.{World, change, tick}
 use Rattle.step_semantics.specs.Takes.{Takes}
 use Rattle.c_memory.specs.Access.{Fault}
 use Rattle.c_memory.specs.Abstract.{Same, At, Written, Made, Left}
 use Rattle.c_memory.specs.Initializers as values
 use Rattle.c_ast.specs.declared.CBase.{CBase}
 use Rattle.c_ast.specs.declared.CBase.TheVariants as base
-use Rattle.c_ast.specs.declared.CKind.{CKind}
 use Rattle.c_ast.specs.declared.CKind.TheVariants.{Scalar}
 use Rattle.c_ast.specs.declared.CScalar.{CScalar}
 use Rattle.c_ast.specs.Conversions.{convert_in, can_hold}
@@ -24,7 +23,7 @@ use Rattle.c_ast.specs.StaticTypes.{Entity, ObjectName, Stored, of_entity, of_re
 use Rattle.c_ast.specs.Syntax.{Name, Expr, Read, Var, One, Object, Assign}
 use Rattle.c_ast.specs.Targets.{table_of}
 use Rattle.c_meaning.specs.Calls.{given}
-use Rattle.c_meaning.specs.Expressions.{eval, eval_place, static_type, static_place_type}
+use Rattle.c_meaning.specs.Expressions.{eval, eval_place, static_place_type}
 use Rattle.c_meaning.specs.Initializers.{eval_init, made_with, number_of}
 use Rattle.c_meaning.specs.Memory.{CObjects, memory_of, nought, answered, unless_refused}
 use Rattle.c_meaning.specs.Places.{Lvalue, Located, or_outer, file_place, of_scalar, read}
@@ -37,8 +36,8 @@ use Rattle.lower_types.specs.Names.{local_name}
 use Rattle.lower_types.proofs.Names.{locals_differ}
 use Rattle.value_refinement.specs.Kept.{Kept}
 use Rattle.value_refinement.specs.Settings.{Setting, IsOld}
-use Rattle.value_refinement.specs.Standing.{HasScalar, Converts}
-use Rattle.value_refinement.proofs.Keeping.{same_twice, kept_object, kept_changed}
+use Rattle.form_answers.specs.Standing.{HasScalar, Converts}
+use Rattle.value_refinement.proofs.Keeping.{same_twice, kept_object}
 use Rattle.value_refinement.proofs.Running.{takes_value, takes_one}
 
 -- a temporary is an old name for those of later numbers
@@ -158,10 +157,10 @@ module _ (g : Setting) (w : World) (t : CState) (j : ℕ) (k : CScalar) where
       → (u : CState) × Takes 1 (exec g.program g.functions (Object (local_name j) (base.Scalar k) (Some (One e)))) w t Falls u × Declared g w t j k (Some n) u
   takes_object_with e n h can =
       let made : Made (metric_of g.program.target) (memory_of g.program.target) t.objects ((memory_of g.program.target).initialize t.objects (Leaf k) false (n ∷ [])) false (Leaf k) (Some n ∷ []) =
-          (lawful_in (table_of g.program.target)).initializes t.objects (Leaf k) false (n ∷ []) (can, tt) in
+      (lawful_in (table_of g.program.target)).initializes t.objects (Leaf k) false (n ∷ []) (can, tt) in
       let v : CValue = Num h.kind h.number in
       let first : made_with g.program.target (Leaf k) false t.objects (values.One v) ≡ Ok ((memory_of g.program.target).initialize t.objects (Leaf k) false (n ∷ [])) =
-          ap (λ c. on_ok (on_ok (on_ok (typed (Scalar k) c) number_of) (λ i. Ok (values.One i))) (λ numbers. Ok ((memory_of g.program.target).initialize t.objects (Leaf k) false (cells (values.initial {N = Name} nought (Leaf k) numbers))))) h.converted in (
+      ap (λ c. on_ok (on_ok (on_ok (typed (Scalar k) c) number_of) (λ i. Ok (values.One i))) (λ numbers. Ok ((memory_of g.program.target).initialize t.objects (Leaf k) false (cells (values.initial {N = Name} nought (Leaf k) numbers))))) h.converted in (
         with_number n,
         takes_value g.program w t 1 (eval_init g.program (One e)) (values.One v) (λ i. tick (object_with g.program (local_name j) (base.Scalar k) i)) Falls (with_number n)
             (ap (λ r. on_ok r (λ i. Ok (values.One i))) h.gives)
@@ -202,10 +201,10 @@ module _ (g : Setting) (w : World) (t : CState) (x : Name) (k : CScalar) (o : �
       let v : CValue = Num is.kind is.number in
       let u : CState = record t { objects = new_objects.new } in
       let stores : Takes 1 (tick (assign g.program (whole g.program o k) v)) w t Falls u =
-          takes_one g.program w t (assign g.program (whole g.program o k) v) Falls u (λ i. ap (λ r. given g.program r (λ objects. change Falls (λ s. record s { objects = objects })) i w t) number_stored) in
+      takes_one g.program w t (assign g.program (whole g.program o k) v) Falls u (λ i. ap (λ r. given g.program r (λ objects. change Falls (λ s. record s { objects = objects })) i w t) number_stored) in
       let placed : (i : ℕ) → exec g.program g.functions (Assign (Var x) e) i w t ≡ tick (assign g.program (whole g.program o k) v) i w t = λ i.
-          ap (λ r. given g.program r (λ l. given g.program (eval g.program e t) (λ a. tick (assign g.program l a))) i w t) (object_place g.program t x k o value object)
-          ∙ ap (λ r. given g.program r (λ a. tick (assign g.program (whole g.program o k) a)) i w t) is.gives in (
+      ap (λ r. given g.program r (λ l. given g.program (eval g.program e t) (λ a. tick (assign g.program l a))) i w t) (object_place g.program t x k o value object)
+      ∙ ap (λ r. given g.program r (λ a. tick (assign g.program (whole g.program o k) a)) i w t) is.gives in (
         u,
         record { waits = λ i lt. placed i ∙ stores.waits i lt; finishes = λ i. placed (1 + i) ∙ stores.finishes i },
         record {

@@ -1,15 +1,13 @@
 -- Operands: a piece that is named, or taken as it is, follows as the piece does, is owed nothing, and stands exactly.
-use Rattle.std.proofs.Common.{◌≡◌, ◌≢◌, ℕ, zero, suc, ◌+◌, ◌*◌, ◌<◌, ◌≤◌, ℤ, pos, Bool, true, false, List, [], ◌∷◌, ◌++◌, Option, Some, None, Result, Ok, Err, refl, sym, ◌∙◌, ap, subst, arith}
+use Rattle.std.proofs.Common.{◌≡◌, ℕ, suc, ◌+◌, ◌*◌, ◌<◌, ◌≤◌, ℤ, pos, Bool, true, false, List, [], ◌∷◌, ◌++◌, Option, Some, None, Ok, refl, sym, ◌∙◌, ap, subst, arith}
 use Rattle.std.proofs.lemmas.List.{append_assoc, append-nil}
 use Rattle.std.specs.Prelude.{if◌then◌else◌, not, ◌&&◌, IsTrue, IsSome}
 use Rattle.iv_words.proofs.Equality.{same_self}
 use Rattle.step_semantics.specs.Control.{Control}
 use Rattle.step_semantics.specs.Follows.{Follows}
 use Rattle.step_semantics.specs.Steps.{World, Part, bind, ticks}
-use Rattle.step_semantics.specs.Takes.{Takes, Reaches}
 use Rattle.step_semantics.proofs.Paying.{pays_to}
 use Rattle.step_semantics.proofs.Following.{eased}
-use Rattle.area_types.specs.Syntax as types
 use Rattle.area_types.specs.Syntax.{ValueType}
 use Rattle.core_tree.specs.Syntax.{ExprCore, type_of}
 use Rattle.core_meaning.specs.Expressions.{eval}
@@ -17,10 +15,8 @@ use Rattle.core_meaning.specs.Gives.{Gives}
 use Rattle.core_meaning.specs.State.{State}
 use Rattle.core_meaning.specs.Values as source
 use Rattle.core_meaning.specs.Values.{Value}
-use Rattle.c_ast.specs.declared.CKind.{CKind}
 use Rattle.c_ast.specs.declared.CKind.TheVariants.{Scalar, Arith as Computed}
 use Rattle.c_ast.specs.declared.CScalar.{CScalar}
-use Rattle.c_ast.specs.declared.CType.{CType}
 use Rattle.c_ast.specs.declared.CType.TheVariants as ctype
 use Rattle.c_ast.specs.declared.Arith.{Arith}
 use Rattle.c_ast.specs.Conversions.{can_hold, constant_type}
@@ -37,18 +33,18 @@ use Rattle.c_meaning.proofs.HeldNumbers.{held_as_assigned}
 use Rattle.c_meaning.proofs.Names.{name_gives, name_type_is}
 use Rattle.area_objects.specs.Both.{Map}
 use Rattle.lower_types.specs.Names.{local_name}
-use Rattle.lower_types.specs.Types.{scalar_for, type_for}
+use Rattle.lower_types.specs.Types.{scalar_for}
 use Rattle.lower_types.proofs.Names.{locals_differ}
 use Rattle.lower_values.specs.Expressions.{raw}
 use Rattle.lower_values.specs.Pieces.{Piece, Standing, Exact, Same, Near, pad, paid, inline, named, taken, once, often, atom, is_atom, is_read, stays, is_exact, has_number}
 use Rattle.value_refinement.specs.Kept.{Kept}
-use Rattle.value_refinement.specs.Laws.{Stage, Goes, RawFollows, owing, spare, running}
+use Rattle.value_refinement.specs.Laws.{RawFollows, owing, spare, running}
 use Rattle.value_refinement.specs.Related.{Related}
 use Rattle.value_refinement.specs.Settings.{Setting, Set, IsOld}
-use Rattle.value_refinement.specs.Standing.{HasScalar, IsNumber, Stands, ExactlyIs}
-use Rattle.value_refinement.specs.Values.{Comes, StandsFor, Simple, HasArithmetic}
+use Rattle.form_answers.specs.Standing.{HasScalar, IsNumber, Stands, ExactlyIs}
+use Rattle.value_refinement.specs.Values.{Comes, Simple, HasArithmetic}
 use Rattle.value_refinement.proofs.Keeping.{kept_twice, kept_same, kept_declared}
-use Rattle.value_refinement.proofs.OperandValues.{exact_held}
+use Rattle.form_answers.proofs.OperandValues.{exact_held}
 use Rattle.value_refinement.proofs.Running.{runs_first, takes_pad, takes_const}
 use Rattle.value_refinement.proofs.Standings.{scalar_on}
 
@@ -69,7 +65,7 @@ module _ (g : Setting) where
   name_stands j k n u w kept =
       let v : CValue = Num (Scalar k) n in
       let has : name_value (declare (local_name j) v u) (local_name j) ≡ Some v =
-          ap (λ b. value_in (if b then (let slot : Option Slot = Some (Holding v) in slot) else table.named u.frames.own (local_name j))) (same_self (local_name j)) in
+      ap (λ b. value_in (if b then (let slot : Option Slot = Some (Holding v) in slot) else table.named u.frames.own (local_name j))) (same_self (local_name j)) in
       scalar_on g [] [] (suc j) (declare (local_name j) v u) w kept (local_name j) (local_is_old j (suc j) (omega arith)) k n
       (record { gives = name_gives g.program (declare (local_name j) v u) (local_name j) (Scalar k) n has; type = name_type_is g.program (declare (local_name j) v u) (local_name j) v has })
 
@@ -351,12 +347,11 @@ module _ (g : Setting) (set : Set g) (objects : Map) (s : State) where
             (λ k. on i u gives (record {
               grows = comes.grows;
               kept = comes.kept;
-              stands = λ v kept.
-                  (
-                    by_number g v kind (p from).standing (p from).value i (first_holds (has_number (p from).standing) (stays (p from)) e) (holds i gives) (comes.stands v kept).1,
-                    typed_number g v kind (p from).standing (p from).owed (p from).value i (first_holds (has_number (p from).standing) (stays (p from)) e)
+              stands = λ v kept. (
+                by_number g v kind (p from).standing (p from).value i (first_holds (has_number (p from).standing) (stays (p from)) e) (holds i gives) (comes.stands v kept).1,
+                typed_number g v kind (p from).standing (p from).owed (p from).value i (first_holds (has_number (p from).standing) (stays (p from)) e)
                     (last_free (has_number (p from).standing) (is_atom (p from).value) (p from).owed e) (comes.stands v kept).0 (comes.stands v kept).1,
-                  );
+              );
             }) k z) m
       by_case false e on =
           subst (λ l. Follows g.frame.skip post x y n (bind part go n w s) (λ j. running g l j w t)) (sym (append_assoc (p from).before (Const (local_name (p from).next) (ctype.Value kind) (p from).value ∷ []) rest))

@@ -1,6 +1,6 @@
 -- The prefixes `-`, `~` and `!`, and fields of bit data.
-use Rattle.std.proofs.Common.{◌≡◌, ℕ, zero, suc, ◌≤◌, ℤ, pos, Bool, true, false, List, [], ◌∷◌, length, map, Option, Some, None, Ok, refl, sym, ◌∙◌, ap, subst, arith}
-use Rattle.std.specs.Prelude.{not, slice_get, IsTrue}
+use Rattle.std.proofs.Common.{◌≡◌, ℕ, ◌≤◌, ℤ, pos, true, false, length, map, Some, Ok, refl, sym, ◌∙◌, ap, subst, arith}
+use Rattle.std.specs.Prelude.{not, IsTrue}
 use Rattle.std.specs.Ordering.{int_eq}
 use Rattle.iv_words.specs.declared.IntKind.{IntKind}
 use Rattle.int_ops.specs.Operators.{truth, is_allowed}
@@ -10,22 +10,20 @@ use Rattle.std.specs.Option.{option_map}
 use Rattle.bit_data.specs.Fields.{field_at, field_of}
 use Rattle.ivory_tree.specs.declared.PrefixOp.TheVariants as prefix
 use Rattle.source_types.specs.Values.{is_signed_integer, is_unsigned_integer, is_truth}
-use Rattle.step_semantics.specs.Steps.{World, Part, bind, tick, give}
+use Rattle.step_semantics.specs.Steps.{bind, tick, give}
 use Rattle.area_types.specs.Syntax as types
 use Rattle.area_types.specs.Syntax.{ValueType, Int}
 use Rattle.region_check.specs.Calls.{reference_of}
 use Rattle.core_tree.specs.Checks.{expr_checks}
-use Rattle.core_tree.specs.Operators.{prefix_sites}
 use Rattle.core_tree.specs.Syntax.{Label, ExprCore, type_of}
 use Rattle.core_tree.specs.Syntax as core
-use Rattle.core_tree.specs.declared.SiteKind.{SiteKind}
 use Rattle.core_tree.specs.TypedExpressions.{ExprTyped, BitFieldTyped}
 use Rattle.core_meaning.specs.Answers.{site_of, prefix_operation, in_kind, layout_of}
 use Rattle.core_meaning.specs.Checks.{Answer, on_truth, on_some}
 use Rattle.core_meaning.specs.Expressions.{eval, of_number, field_behind}
 use Rattle.core_meaning.specs.Gives.{Gives, OfNumber}
 use Rattle.core_meaning.specs.State.{State}
-use Rattle.core_meaning.specs.Values.{Value, Num}
+use Rattle.core_meaning.specs.Values.{Num}
 use Rattle.c_ast.specs.declared.CScalar.TheVariants as scalar
 use Rattle.c_ast.specs.declared.CUnary.TheVariants as unary
 use Rattle.c_ast.specs.Syntax as c
@@ -43,18 +41,18 @@ use Rattle.lower_values.specs.Operators as lowered
 use Rattle.lower_values.specs.Pieces.{Piece, Same, Near, taken}
 use Rattle.lower_values.specs.Ranges.{settled}
 use Rattle.lower_values.specs.Tests.{has_checks}
-use Rattle.value_refinement.specs.Answering.{GuardsTell}
-use Rattle.value_refinement.specs.FormLaws.{Operand}
+use Rattle.form_answers.specs.Answering.{GuardsTell}
+use Rattle.form_answers.specs.FormLaws.{Operand}
 use Rattle.value_refinement.specs.Laws.{Numbered, Stage, RawFollows}
 use Rattle.value_refinement.specs.Settings.{Setting, Set}
-use Rattle.value_refinement.specs.Standing.{ExactlyIs, IsNumber, Converts}
+use Rattle.form_answers.specs.Standing.{ExactlyIs, IsNumber, Converts}
 use Rattle.value_refinement.proofs.BitWords.{Laid, laid_out}
-use Rattle.value_refinement.proofs.FieldValues.{field_in_word, fields_answer}
+use Rattle.form_answers.proofs.FieldValues.{field_in_word, fields_answer}
 use Rattle.value_refinement.proofs.Given.{operand_follows, of_kind, many_checks, first_checks}
 use Rattle.value_refinement.proofs.NumberParts.{near_simple, same_pieces, same_parts, checked_follows, stepped_follows}
 use Rattle.value_refinement.proofs.Operands.{PieceFollows, as_raw}
-use Rattle.value_refinement.proofs.Operators.{operators_answer}
-use Rattle.value_refinement.proofs.Truths.{negations_answer}
+use Rattle.form_answers.proofs.Operators.{operators_answer}
+use Rattle.form_answers.proofs.Truths.{negations_answer}
 use Rattle.value_refinement.proofs.UnaryForms.{answers_of}
 
 -- ---- `-` and `~`

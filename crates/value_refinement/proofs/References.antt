@@ -1,9 +1,8 @@
 -- References: fields and elements of what a reference leads to, and what is read through one.
-use Rattle.std.proofs.Common.{◌≡◌, ◌≢◌, ℕ, zero, suc, ◌+◌, ◌*◌, ◌<◌, ◌≤◌, ℤ, pos, negsuc, Bool, true, false, IsTrue, List, [], ◌∷◌, ◌++◌, Option, Some, None, Result, Ok, Err, refl, sym, ◌∙◌, ap, subst, arith}
+use Rattle.std.proofs.Common.{◌≡◌, ℕ, zero, suc, ◌+◌, ◌<◌, ◌≤◌, ℤ, pos, negsuc, Bool, IsTrue, List, [], ◌∷◌, ◌++◌, Option, Some, None, Result, Ok, refl, sym, ◌∙◌, ap, subst, arith}
 use Rattle.std.specs.Prelude.{if◌then◌else◌, slice_get, unsigned_abs}
 use Rattle.std.specs.Option.{option_map, option_and_then}
 use Rattle.std.proofs.lemmas.List.{append_assoc}
-use Rattle.step_semantics.specs.Control.{Control}
 use Rattle.step_semantics.specs.Follows.{Follows}
 use Rattle.step_semantics.specs.Steps.{World, Part, bind, after, tick, give, by_state}
 use Rattle.step_semantics.proofs.Equations.{after_after}
@@ -29,14 +28,14 @@ use Rattle.core_meaning.specs.Areas.{Area as Held, Areas, Live, number_in, numbe
 use Rattle.core_meaning.specs.Areas as areas_of
 use Rattle.core_meaning.specs.Checks.{on_some, on_reference}
 use Rattle.core_meaning.specs.Expressions.{field_behind, element_behind, eval}
-use Rattle.core_meaning.specs.Gives.{Gives, CellGives}
+use Rattle.core_meaning.specs.Gives.{Gives}
 use Rattle.core_meaning.specs.State.{State}
 use Rattle.core_meaning.specs.Values.{Value, Num, Ref}
 use Rattle.c_ast.specs.declared.CKind.TheVariants.{Scalar}
 use Rattle.c_ast.specs.Scalars.{metric_of}
 use Rattle.c_ast.specs.StaticTypes.{Stored, Arithmetic, member_tree, of_member, of_element, of_read, of_both}
 use Rattle.c_ast.specs.Structs.{CTree, offset_named}
-use Rattle.c_ast.specs.Syntax.{Name, Expr, Read, Address, Place, Var, At, Member, Element, Stmt}
+use Rattle.c_ast.specs.Syntax.{Expr, Read, Address, Place, Member, Element}
 use Rattle.c_meaning.specs.Expressions as target_of
 use Rattle.c_meaning.specs.Places.{Lvalue, Known, Located, part_at, behind, member_of, address_of}
 use Rattle.c_meaning.specs.Places as places
@@ -46,7 +45,7 @@ use Rattle.c_meaning.specs.Values.{CValue, Trouble, on_ok}
 use Rattle.region_soundness.specs.Fitting.{ValueFits}
 use Rattle.region_soundness.proofs.Forms.{index_within}
 use Rattle.region_soundness.proofs.Structs.{struct_there, struct_field_is, field_part}
-use Rattle.area_objects.specs.Both.{Map, LiveIn}
+use Rattle.area_objects.specs.Both.{Map}
 use Rattle.area_objects.specs.Located.{Numbered, IsType, begins, located}
 use Rattle.area_objects.specs.Shapes.{shape, members, base_of}
 use Rattle.area_objects.proofs.Located.{fields_in_order, fields_located, elements_located, parts_pointed_to}
@@ -57,11 +56,11 @@ use Rattle.lower_values.specs.Expressions.{raw, place, field_in, reference_to}
 use Rattle.lower_values.specs.Expressions as lowered
 use Rattle.lower_values.specs.Pieces.{Piece, PlacePiece, pad}
 use Rattle.value_refinement.specs.Kept.{Kept}
-use Rattle.value_refinement.specs.Laws.{Stage, Goes, GoesTo, RawFollows, PlaceFollows, running}
+use Rattle.value_refinement.specs.Laws.{Stage, RawFollows, PlaceFollows, running}
 use Rattle.value_refinement.specs.Related.{is_constant, PointerIs, PlaceIs, Related}
-use Rattle.value_refinement.specs.Settings.{Setting, Set, HasCType}
-use Rattle.value_refinement.specs.Standing.{HasScalar, IsNumber}
-use Rattle.value_refinement.specs.Values.{Comes, Arrives, StandsFor, HasArithmetic}
+use Rattle.value_refinement.specs.Settings.{Setting, Set}
+use Rattle.form_answers.specs.Standing.{HasScalar, IsNumber}
+use Rattle.value_refinement.specs.Values.{Comes, Arrives, HasArithmetic}
 use Rattle.value_refinement.proofs.Given.{index_operand}
 use Rattle.value_refinement.proofs.Keeping.{kept_twice}
 use Rattle.value_refinement.proofs.Names.{reference_follows}
@@ -144,17 +143,17 @@ module _ (g : Setting) (set : Set g) (objects : Map) (s : State) (stage : Stage 
         let content : h.pointer.content ≡ Struct number rows.row = content_is e typed at_field.constant at_field.region (types.Struct number) at_field.operand k path gives w c0 (reference_to to) h.pointer ∙ rows.is in
         let leads : part h.pointer.area.ty path ≡ Some (Struct number rows.row) = h.pointer.leads ∙ ap Some content in
         let inner : target_of.eval_place g.program to w ≡ Ok (located g.program.target g.naming c0 h.pointer.object h.pointer.area.ty path (Struct number rows.row)) =
-            h.is ∙ ap (λ b. let r : Result Lvalue Trouble = Ok (located g.program.target g.naming c0 h.pointer.object h.pointer.area.ty path b) in r) content in
+        h.is ∙ ap (λ b. let r : Result Lvalue Trouble = Ok (located g.program.target g.naming c0 h.pointer.object h.pointer.area.ty path b) in r) content in
         let found = fields_located g.program.target g.naming c0 h.pointer.object h.pointer.area.ty path number rows.row field area_out (set.apart number rows.row rows.is)
-            (subst Numbered rows.is (fields_in_order g.frame.core.structs (types.Struct number))) leads field_leads in
+        (subst Numbered rows.is (fields_in_order g.frame.core.structs (types.Struct number))) leads field_leads in
         let named : member_of g.program.target (field_in g.frame (type_of e) field) (located g.program.target g.naming c0 h.pointer.object h.pointer.area.ty path (Struct number rows.row)) ≡ Ok (located g.program.target g.naming c0 h.pointer.object h.pointer.area.ty (path ++ field ∷ []) area_out) =
-            ap (λ m. member_of g.program.target m (located g.program.target g.naming c0 h.pointer.object h.pointer.area.ty path (Struct number rows.row))) name_is ∙ found.1 in
+        ap (λ m. member_of g.program.target m (located g.program.target g.naming c0 h.pointer.object h.pointer.area.ty path (Struct number rows.row))) name_is ∙ found.1 in
         let tree : member_tree (members g.naming rows.row number) (field_in g.frame (type_of e) field) ≡ Some (shape g.naming area_out) =
-            member_found c0 (begins g.program.target g.naming h.pointer.object h.pointer.area.ty path) (begins g.program.target g.naming h.pointer.object h.pointer.area.ty (path ++ field ∷ [])) (shape g.naming area_out)
-            (offset_named (metric_of g.program.target) (shape g.naming (Struct number rows.row)) (field_in g.frame (type_of e) field)) (member_tree (members g.naming rows.row number) (field_in g.frame (type_of e) field)) named in
+        member_found c0 (begins g.program.target g.naming h.pointer.object h.pointer.area.ty path) (begins g.program.target g.naming h.pointer.object h.pointer.area.ty (path ++ field ∷ [])) (shape g.naming area_out)
+        (offset_named (metric_of g.program.target) (shape g.naming (Struct number rows.row)) (field_in g.frame (type_of e) field)) (member_tree (members g.naming rows.row number) (field_in g.frame (type_of e) field)) named in
         let typed_to : target_of.static_place_type g.program w to ≡ Some (Stored c0 (shape g.naming (Struct number rows.row))) = h.type ∙ ap (λ b. Some (Stored c0 (shape g.naming b))) content in
         let type : target_of.static_place_type g.program w (field_place to) ≡ Some (Stored c0 (shape g.naming area_out)) =
-            ap (option_and_then (of_member (field_in g.frame (type_of e) field))) typed_to ∙ ap (option_map (Stored c0)) tree in
+        ap (option_and_then (of_member (field_in g.frame (type_of e) field))) typed_to ∙ ap (option_map (Stored c0)) tree in
         subst (λ b. PlaceIs g objects s.areas w b (field_place to) k (path ++ field ∷ [])) (ap is_constant at_field.operand ∙ sym (ap is_constant at_field.type))
         (deeper w c0 to (field_place to) k path (path ++ field ∷ []) h area_out found.0 (ap (λ r. on_ok r (member_of g.program.target (field_in g.frame (type_of e) field))) inner ∙ named) type refl
         (set.types (core.Field l e field) at_field.constant at_field.region at_field.area whole at_field.type).type)
@@ -174,7 +173,7 @@ module _ (g : Setting) (set : Set g) (objects : Map) (s : State) (stage : Stage 
             → (m : ℕ) (z : World) → Follows g.frame.skip post x y m (bind (field_behind g.frame.core (type_of e) field (Ref k path)) go m z s) (λ j. running g (pad ∷ rest) j z u)
         on k path u gives arrives m z =
             let there : Arrives g objects s from (field_place (place g.frame e from).place) (place g.frame e from).next l.ty t k (path ++ field ∷ []) u =
-                record { grows = arrives.grows; kept = arrives.kept; stands = λ v kept. field_is k path gives v (place g.frame e from).place (arrives.stands v kept) } in
+            record { grows = arrives.grows; kept = arrives.kept; stands = λ v kept. field_is k path gives v (place g.frame e from).place (arrives.stands v kept) } in
             subst (λ r. Follows g.frame.skip post x y m r (λ j. running g (pad ∷ rest) j z u)) (sym (field_tick go k path m z))
             (pays_to g.frame.skip post 1 1 x x y (go (Ref k (path ++ field ∷ []))) z s (omega arith) (omega arith) (λ j. running g (pad ∷ rest) j z u) (λ j. running g rest j z u) (runs_first g 1 pad rest z u u (takes_pad g z u))
             (λ i. goes.by k (path ++ field ∷ []) u (record { operand = Ref k path; is_given = gives; is = refl }) there i z) m)
@@ -213,19 +212,19 @@ module _ (g : Setting) (set : Set g) (objects : Map) (s : State) (stage : Stage 
         let content : h.pointer.content ≡ Many at_element.length element_out = content_is e typed at_element.constant at_element.region (types.Array at_element.length at_element.element) at_element.operand k path gives w c0 (reference_to to) h.pointer in
         let leads : part h.pointer.area.ty path ≡ Some (Many at_element.length element_out) = h.pointer.leads ∙ ap Some content in
         let inner : target_of.eval_place g.program to w ≡ Ok (located g.program.target g.naming c0 h.pointer.object h.pointer.area.ty path (Many at_element.length element_out)) =
-            h.is ∙ ap (λ b. let r : Result Lvalue Trouble = Ok (located g.program.target g.naming c0 h.pointer.object h.pointer.area.ty path b) in r) content in
+        h.is ∙ ap (λ b. let r : Result Lvalue Trouble = Ok (located g.program.target g.naming c0 h.pointer.object h.pointer.area.ty path b) in r) content in
         let found = elements_located g.program.target g.naming c0 h.pointer.object h.pointer.area.ty path at_element.length (unsigned_abs i) element_out number.0 leads low in
         let is : target_of.eval_place g.program (Element (Member to elements_name) d) w ≡ Ok (located g.program.target g.naming c0 h.pointer.object h.pointer.area.ty (path ++ unsigned_abs i ∷ []) element_out) =
-            ap (λ r. on_ok (on_ok r (member_of g.program.target elements_name)) (λ a. on_ok (target_of.eval g.program d w) (places.element_of g.program.target a))) inner
-            ∙ ap (λ r. on_ok (member_of g.program.target elements_name (located g.program.target g.naming c0 h.pointer.object h.pointer.area.ty path (Many at_element.length element_out))) (λ a. on_ok r (places.element_of g.program.target a))) (number.1 ∙ ap (λ z. let r : Result CValue Trouble = Ok (target.Num number.0 z) in r) (from_natural at_element.length i (index_low i index_gives)))
-            ∙ ap (λ m. on_ok (member_of g.program.target m (located g.program.target g.naming c0 h.pointer.object h.pointer.area.ty path (Many at_element.length element_out))) (λ a. places.element_of g.program.target a (target.Num number.0 (pos (unsigned_abs i))))) (sym set.elements)
-            ∙ found.1 in
+        ap (λ r. on_ok (on_ok r (member_of g.program.target elements_name)) (λ a. on_ok (target_of.eval g.program d w) (places.element_of g.program.target a))) inner
+        ∙ ap (λ r. on_ok (member_of g.program.target elements_name (located g.program.target g.naming c0 h.pointer.object h.pointer.area.ty path (Many at_element.length element_out))) (λ a. on_ok r (places.element_of g.program.target a))) (number.1 ∙ ap (λ z. let r : Result CValue Trouble = Ok (target.Num number.0 z) in r) (from_natural at_element.length i (index_low i index_gives)))
+        ∙ ap (λ m. on_ok (member_of g.program.target m (located g.program.target g.naming c0 h.pointer.object h.pointer.area.ty path (Many at_element.length element_out))) (λ a. places.element_of g.program.target a (target.Num number.0 (pos (unsigned_abs i))))) (sym set.elements)
+        ∙ found.1 in
         let array_type : target_of.static_place_type g.program w (Member to elements_name) ≡ Some (Stored c0 (Many at_element.length (shape g.naming element_out))) =
-            ap (option_and_then (of_member elements_name)) (h.type ∙ ap (λ b. Some (Stored c0 (shape g.naming b))) content)
-            ∙ ap (λ m. option_map (Stored c0) (member_tree (Field g.naming.elements (Many at_element.length (shape g.naming element_out)) End) m)) (sym set.elements)
-            ∙ ap (λ b. option_map (Stored c0) (if b then Some (Many at_element.length (shape g.naming element_out)) else None)) (same_self g.naming.elements) in
+        ap (option_and_then (of_member elements_name)) (h.type ∙ ap (λ b. Some (Stored c0 (shape g.naming b))) content)
+        ∙ ap (λ m. option_map (Stored c0) (member_tree (Field g.naming.elements (Many at_element.length (shape g.naming element_out)) End) m)) (sym set.elements)
+        ∙ ap (λ b. option_map (Stored c0) (if b then Some (Many at_element.length (shape g.naming element_out)) else None)) (same_self g.naming.elements) in
         let type : target_of.static_place_type g.program w (Element (Member to elements_name) d) ≡ Some (Stored c0 (shape g.naming element_out)) =
-            ap (λ a. of_both of_element a (target_of.static_type g.program w d)) array_type ∙ ap (of_both of_element (Some (Stored c0 (Many at_element.length (shape g.naming element_out))))) static.type in
+        ap (λ a. of_both of_element a (target_of.static_type g.program w d)) array_type ∙ ap (of_both of_element (Some (Stored c0 (Many at_element.length (shape g.naming element_out))))) static.type in
         subst (λ b. PlaceIs g objects s.areas w b (Element (Member to elements_name) d) k (path ++ unsigned_abs i ∷ [])) (ap is_constant at_element.operand ∙ sym (ap is_constant at_element.type))
         (deeper w c0 to (Element (Member to elements_name) d) k path (path ++ unsigned_abs i ∷ []) h element_out found.0 is type refl
         (set.types (core.Element l e index) at_element.constant at_element.region at_element.element whole at_element.type).type)
@@ -294,7 +293,7 @@ module _ (g : Setting) (set : Set g) (objects : Map) (s : State) (stage : Stage 
         let content : h.pointer.content ≡ Leaf l.ty = content_is e typed at_cell.constant at_cell.region (types.Stored l.ty) at_cell.operand k path gives w c0 (reference_to to) h.pointer in
         let leads : part h.pointer.area.ty path ≡ Some (Leaf l.ty) = h.pointer.leads ∙ ap Some content in
         let read : places.read g.program.target w (located g.program.target g.naming c0 h.pointer.object h.pointer.area.ty path (Leaf l.ty)) ≡ Ok (target.Num (Scalar (g.naming.scalar l.ty)) v) =
-            places_read g.program.target g.naming objects s.areas w k h.pointer.object h.pointer.area c0 path l.ty v related.both h.pointer.lives leads (held_there k path v h.pointer.area h.pointer.lives.live holds) in
+        places_read g.program.target g.naming objects s.areas w k h.pointer.object h.pointer.area c0 path l.ty v related.both h.pointer.lives leads (held_there k path v h.pointer.area h.pointer.lives.live holds) in
         record {
           gives =
               ap (λ r. on_ok r (places.read g.program.target w)) (h.is ∙ ap (λ b. let r : Result Lvalue Trouble = Ok (located g.program.target g.naming c0 h.pointer.object h.pointer.area.ty path b) in r) content)

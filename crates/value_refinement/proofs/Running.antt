@@ -1,9 +1,9 @@
 -- What single statements of C take and leave: a statement that does nothing, the declaration of a name, and the test of a check.
-use Rattle.std.proofs.Common.{◌≡◌, ℕ, zero, suc, ◌+◌, ◌*◌, ◌^◌, ◌<◌, ◌≤◌, ℤ, pos, Bool, true, false, List, [], ◌∷◌, ◌++◌, length, map, Option, Some, None, Result, Ok, Err, refl, sym, ◌∙◌, ap, subst, arith, lit<}
-use Rattle.std.specs.Prelude.{if◌then◌else◌, not, IsSome, IsTrue}
+use Rattle.std.proofs.Common.{◌≡◌, ℕ, suc, ◌+◌, ◌^◌, ◌<◌, pos, Bool, true, false, List, [], ◌∷◌, length, Option, Some, None, Result, Ok, Err, refl, ◌∙◌, ap, arith, lit<}
+use Rattle.std.specs.Prelude.{if◌then◌else◌, not, IsSome}
 use Rattle.std.specs.Ordering.{int_eq}
-use Rattle.step_semantics.specs.Control.{Control, Falls, onward}
-use Rattle.step_semantics.specs.Steps.{World, Progress, Finished, Halted, Exhausted, FailedCheck, Part, give, after, tick, by_state, change, left, block}
+use Rattle.step_semantics.specs.Control.{Falls, onward}
+use Rattle.step_semantics.specs.Steps.{World, Finished, Halted, Exhausted, FailedCheck, Part, give, after, tick, by_state, change, left, block}
 use Rattle.step_semantics.specs.Takes.{Takes, Reaches}
 use Rattle.step_semantics.proofs.Paying.{takes_reaches, takes_tick}
 use Rattle.c_memory.specs.Blocks as blocks
@@ -22,7 +22,6 @@ use Rattle.overflow_checks.proofs.Constants.{plain_typed, typed_is_some}
 use Rattle.overflow_checks.proofs.Numbers.{natural}
 use Rattle.overflow_checks.proofs.Tables.{table_of_target}
 use Rattle.c_ast.specs.declared.CUnary.TheVariants.{Not}
-use Rattle.c_ast.specs.declared.Suffix.{Suffix}
 use Rattle.c_ast.specs.declared.Suffix.TheVariants.{Plain}
 use Rattle.c_ast.specs.declared.Target.{Target}
 use Rattle.c_ast.specs.Conversions.{constant_type}
@@ -30,7 +29,6 @@ use Rattle.c_ast.specs.Syntax.{Name, Expr, Number, Unary, Stmt, Stmts, Const, If
 use Rattle.c_meaning.specs.Expressions.{eval, eval_all}
 use Rattle.c_meaning.specs.Calls as calls
 use Rattle.c_meaning.specs.Calls.{given, call}
-use Rattle.c_meaning.specs.Memory.{CObjects}
 use Rattle.c_meaning.specs.Operators.{truth}
 use Rattle.c_meaning.specs.State.{Program, CState, declare, leave, seen}
 use Rattle.c_meaning.specs.Statements.{exec, exec_all, declaration}
@@ -39,7 +37,7 @@ use Rattle.lower_values.specs.Pieces.{pad}
 use Rattle.lower_values.specs.Tests.{stop_at, test_for}
 use Rattle.value_refinement.specs.Laws.{running}
 use Rattle.value_refinement.specs.Settings.{Setting}
-use Rattle.value_refinement.specs.Standing.{TestIs}
+use Rattle.form_answers.specs.Standing.{TestIs}
 
 -- ---- statements in a row
 
@@ -118,8 +116,7 @@ module _ (g : Setting) (w : World) (t : CState) where
 
   site_given : (site : ℕ) → site < 2 ^ 32 → (values : List CValue) × (eval_all g.program (Number site Plain ∷ []) t ≡ Ok values) × (as_arguments g.program.target (Value (scalar.Int U32) ∷ []) values ≡ Ok (Num (Scalar (scalar.Int U32)) (pos site) ∷ []))
   site_given site small =
-      let c = constant_gives g.program site t (omega (arith, small)) in
-      (
+      let c = constant_gives g.program site t (omega (arith, small)) in (
         Num c.0 (pos site) ∷ [],
         ap (λ r. on_ok r (λ v. on_ok (Ok []) (λ vs. Ok (v ∷ vs)))) c.1,
         ap (λ n. on_ok (typed (Scalar (scalar.Int U32)) n) (λ a. on_ok (Ok []) (λ rest. Ok (a ∷ rest)))) (held_stays 32 false (pos site) (natural 32 site small)),

@@ -1,12 +1,12 @@
 -- `set(e, f, x)`: the word with a number in one of its fields.
-use Rattle.std.proofs.Common.{◌≡◌, ℕ, ◌≤◌, ℤ, Bool, true, false, IsTrue, List, [], ◌++◌, length, map, Option, Some, None, Ok, refl, sym, ◌∙◌, ap, subst, arith}
+use Rattle.std.proofs.Common.{◌≡◌, ℕ, ◌≤◌, ℤ, Bool, true, false, IsTrue, ◌++◌, Some, None, Ok, refl, sym, ◌∙◌, ap, subst}
 use Rattle.std.specs.Prelude.{if◌then◌else◌, ◌||◌, nat_eq}
 use Rattle.std.specs.Option.{option_map}
 use Rattle.iv_words.specs.Kinds.{width}
 use Rattle.bit_data.specs.Fields.{field_at, changed}
 use Rattle.bit_data.specs.declared.FieldBits.{FieldBits}
-use Rattle.step_semantics.specs.Steps.{World, Part, bind}
-use Rattle.area_types.specs.Syntax.{ValueType, Truth, Int}
+use Rattle.step_semantics.specs.Steps.{Part, bind}
+use Rattle.area_types.specs.Syntax.{Truth, Int}
 use Rattle.region_check.specs.Calls.{reference_of}
 use Rattle.source_types.specs.Values.{least_unsigned}
 use Rattle.core_tree.specs.Checks.{expr_checks}
@@ -16,9 +16,9 @@ use Rattle.core_tree.specs.Syntax.{ExprCore, Label, type_of}
 use Rattle.core_tree.specs.TypedExpressions.{ExprTyped}
 use Rattle.core_tree.specs.Types.{is_value}
 use Rattle.core_tree.specs.declared.SiteKind.TheVariants.{Cast}
-use Rattle.core_meaning.specs.Answers.{layout_of, changing, field_set}
+use Rattle.core_meaning.specs.Answers.{changing, field_set}
 use Rattle.core_meaning.specs.Checks.{Answer, answering, on_number, on_some}
-use Rattle.core_meaning.specs.Expressions.{eval, of_numbers}
+use Rattle.core_meaning.specs.Expressions.{eval}
 use Rattle.core_meaning.specs.Gives.{Gives}
 use Rattle.core_meaning.specs.State.{State}
 use Rattle.core_meaning.specs.Values.{Value, Num}
@@ -32,13 +32,13 @@ use Rattle.lower_values.specs.Expressions.{raw}
 use Rattle.lower_values.specs.Frames.{kind_in, type_in}
 use Rattle.lower_values.specs.Pieces.{Piece, Near, taken, both}
 use Rattle.lower_values.specs.Tests.{has_checks}
-use Rattle.value_refinement.specs.Answering.{GuardsTell}
+use Rattle.form_answers.specs.Answering.{GuardsTell}
 use Rattle.value_refinement.specs.Laws.{Numbered, Stage, RawFollows}
 use Rattle.value_refinement.specs.Settings.{Setting, Set}
-use Rattle.value_refinement.specs.Standing.{ExactlyIs, Converts}
+use Rattle.form_answers.specs.Standing.{ExactlyIs, Converts}
 use Rattle.value_refinement.proofs.BitWords.{Laid, laid_out}
-use Rattle.value_refinement.proofs.FieldSets.{sets_answer}
-use Rattle.value_refinement.proofs.FieldValues.{field_in_word}
+use Rattle.form_answers.proofs.FieldSets.{sets_answer}
+use Rattle.form_answers.proofs.FieldValues.{field_in_word}
 use Rattle.value_refinement.proofs.Given.{is_of_type, operand_follows, of_kind, many_checks, first_checks}
 use Rattle.value_refinement.proofs.NumberParts.{same_pieces, same_parts, paired_follows}
 use Rattle.value_refinement.proofs.Operands.{PieceFollows, as_raw}
@@ -104,7 +104,7 @@ module _ (g : Setting) (set : Set g) (objects : Map) (s : State) (stage : Stage 
       (λ d v which. set_guard (field_at at.layout field) v) (λ d v which. set_settled at.layout field v) answer
       (λ w d v a n word_given value_given exact_d exact_v. (tells w d v a n word_given value_given exact_d exact_v).0)
       (λ w d v a n r word_given value_given exact_d exact_v answers.
-          subst (λ k. Converts g.program w k (put_in (kind_in g.frame (type_of e)) (field_at at.layout field) d v) r) (sym scalar_is) ((tells w d v a n word_given value_given exact_d exact_v).1 r answers))
+      subst (λ k. Converts g.program w k (put_in (kind_in g.frame (type_of e)) (field_at at.layout field) d v) r) (sym scalar_is) ((tells w d v a n word_given value_given exact_d exact_v).1 r answers))
       (λ a n r word_given value_given answers. record { answer = answer; has = form; first = a; first_given = word_given; second = n; second_given = value_given; number = r; answers = answers; is = refl })
 
   pub set_follows : RawFollows g objects s (core.SetField l e field x)

@@ -1,6 +1,6 @@
 -- A state stays related, and a name stands for its value, while old names and objects are kept.
-use Rattle.std.proofs.Common.{◌≡◌, ◌≢◌, ℕ, suc, ◌+◌, ◌<◌, ◌≤◌, ℤ, Bool, true, false, List, [], ◌∷◌, ◌++◌, length, map, Option, Some, None, Result, Ok, Err, refl, sym, ◌∙◌, ap, subst, arith}
-use Rattle.std.specs.Prelude.{if◌then◌else◌, slice_get, Contains}
+use Rattle.std.proofs.Common.{◌≡◌, ℕ, ◌<◌, ◌≤◌, ℤ, Bool, true, false, List, [], ◌∷◌, ◌++◌, length, map, Option, Some, None, Result, Ok, Err, refl, sym, ◌∙◌, ap, subst}
+use Rattle.std.specs.Prelude.{if◌then◌else◌, slice_get}
 use Rattle.std.specs.Option.{option_map, option_and_then}
 use Rattle.iv_words.specs.Words.{same_word}
 use Rattle.run_records.specs.declared.Reason.TheVariants as reason
@@ -8,17 +8,16 @@ use Rattle.type_trees.specs.Trees.{Leaf, Many, Struct}
 use Rattle.area_types.specs.Syntax.{ValueType}
 use Rattle.core_tree.specs.Syntax.{AreaCore}
 use Rattle.c_memory.specs.Access.{Fault, Dead}
-use Rattle.c_memory.specs.Abstract.{Same}
 use Rattle.c_ast.specs.declared.CScalar.{CScalar}
 use Rattle.c_ast.specs.declared.CKind.TheVariants.{Scalar}
 use Rattle.c_ast.specs.Names.{named}
 use Rattle.c_ast.specs.Scalars.{metric_of}
-use Rattle.c_ast.specs.StaticTypes.{Entity, of_entity, of_read, of_address, of_pointee}
-use Rattle.c_ast.specs.Syntax.{Name, Expr, Number, Read, Address, Place, Var, At}
+use Rattle.c_ast.specs.StaticTypes.{Entity, of_entity, of_read, of_pointee}
+use Rattle.c_ast.specs.Syntax.{Name, Expr, Read, Address, Place, Var, At}
 use Rattle.c_ast.specs.Targets.{table_of}
 use Rattle.c_meaning.specs.Expressions.{eval, eval_place, static_type, static_place_type}
 use Rattle.c_meaning.specs.Memory.{memory_of, answered}
-use Rattle.c_meaning.specs.Places.{Lvalue, Known, Located, name_place, or_outer, file_place, alive, of_scalar, read, address_of, pointee}
+use Rattle.c_meaning.specs.Places.{Lvalue, Known, Located, or_outer, file_place, alive, of_scalar, read, address_of, pointee}
 use Rattle.c_meaning.specs.Scopes.{slot_entity, local_entity, file_entity}
 use Rattle.c_meaning.specs.State.{Program, CState, Slot, lives}
 use Rattle.c_meaning.specs.Values as target
@@ -27,18 +26,18 @@ use Rattle.core_meaning.specs.Areas.{Areas}
 use Rattle.core_meaning.specs.State.{State}
 use Rattle.core_meaning.specs.Values as source
 use Rattle.core_meaning.specs.Values.{Value}
-use Rattle.area_objects.specs.Both.{Map, LiveIn}
+use Rattle.area_objects.specs.Both.{Map}
 use Rattle.area_objects.proofs.Alike.{lawful_in}
 use Rattle.area_objects.proofs.Kept.{both_kept}
 use Rattle.lower_types.specs.Names.{item_name}
 use Rattle.lower_types.specs.Types.{scalar_for}
 use Rattle.lower_types.proofs.Names.{item_is_no_local}
-use Rattle.lower_values.specs.Expressions.{name_or_empty, area_place, local_place, local_value, reference_to}
+use Rattle.lower_values.specs.Expressions.{name_or_empty, area_place}
 use Rattle.lower_values.specs.Frames.{is_object, name_of}
 use Rattle.value_refinement.specs.Kept.{Kept}
 use Rattle.value_refinement.specs.Related.{PointerIs, PlaceIs, NameStands, Related}
 use Rattle.value_refinement.specs.Settings.{Setting, Set, IsOld}
-use Rattle.value_refinement.specs.Standing.{HasScalar}
+use Rattle.form_answers.specs.Standing.{HasScalar}
 use Rattle.value_refinement.proofs.Keeping.{older}
 
 module _ (p : Program) (k : ℕ) (u w : CState) (kept : Kept p k u w) where

@@ -1,11 +1,11 @@
 -- The scalar of a type holds each number of the type.
-use Rattle.std.proofs.Common.{◌≡◌, ℤ, Bool, true, false, Option, Some, None, refl, sym, ◌∙◌, ap, subst}
-use Rattle.std.specs.Prelude.{List, slice_get, unwrap_or, IsTrue}
+use Rattle.std.proofs.Common.{◌≡◌, ℤ, Option, Some, None, refl, sym, ◌∙◌, ap, subst}
+use Rattle.std.specs.Prelude.{slice_get, unwrap_or, IsTrue}
 use Rattle.iv_words.specs.declared.IntKind.{IntKind}
 use Rattle.iv_words.specs.declared.IntKind.TheVariants.{U8}
 use Rattle.area_types.specs.Syntax as types
 use Rattle.area_types.specs.Syntax.{ValueType}
-use Rattle.area_types.specs.Tables.{Table, has_index_length}
+use Rattle.area_types.specs.Tables.{has_index_length}
 use Rattle.core_tree.specs.Syntax.{ExprCore, type_of}
 use Rattle.core_tree.specs.TypedExpressions.{ExprTyped}
 use Rattle.core_tree.specs.Types.{is_value, is_word}
@@ -13,14 +13,12 @@ use Rattle.core_meaning.specs.Gives.{Gives}
 use Rattle.core_meaning.specs.State.{State}
 use Rattle.core_meaning.specs.Values.{Num}
 use Rattle.c_ast.specs.declared.CKind.TheVariants.{Scalar}
-use Rattle.c_ast.specs.declared.CScalar.{CScalar}
 use Rattle.c_ast.specs.declared.CScalar.TheVariants.{Int}
 use Rattle.c_ast.specs.Conversions.{can_hold}
-use Rattle.c_ast.specs.Targets.{TargetTable, table_of}
+use Rattle.c_ast.specs.Targets.{table_of}
 use Rattle.area_objects.specs.Scalars.{scalar_of}
 use Rattle.area_objects.proofs.Scalars.{numbers_can_be_held}
 use Rattle.lower_types.specs.Types.{scalar_in, scalar_for}
-use Rattle.lower_values.specs.Frames.{Frame}
 use Rattle.value_refinement.specs.Laws.{Stage}
 use Rattle.value_refinement.specs.Settings.{Setting, Set}
 

@@ -1,21 +1,14 @@
 -- Forms on one number: conversions, indices, bit data, and the prefixes `-`, `~` and `!`.
-use Rattle.std.proofs.Common.{◌≡◌, ℕ, zero, suc, ◌+◌, ◌≤◌, ℤ, pos, Bool, true, false, List, [], ◌∷◌, ◌++◌, length, map, Option, Some, None, Result, Ok, Err, refl, sym, ◌∙◌, ap, subst, arith}
-use Rattle.std.specs.Prelude.{if◌then◌else◌, not, ◌||◌, slice_get, IsTrue}
-use Rattle.std.specs.Ordering.{int_eq}
-use Rattle.std.proofs.lemmas.List.{append-nil}
-use Rattle.iv_words.specs.Kinds.{in_range, is_signed}
+use Rattle.std.proofs.Common.{◌≡◌, ℕ, zero, suc, ◌≤◌, ℤ, pos, Bool, true, false, List, [], ◌∷◌, length, Some, None, Ok, Err, refl, sym, ap, subst, arith}
+use Rattle.std.specs.Prelude.{if◌then◌else◌, ◌||◌, IsTrue}
+use Rattle.iv_words.specs.Kinds.{in_range}
 use Rattle.iv_words.specs.declared.IntKind.{IntKind}
 use Rattle.iv_words.specs.declared.IntKind.TheVariants.{U16}
-use Rattle.int_ops.specs.Operators.{truth, is_allowed}
-use Rattle.int_ops.specs.declared.Op.{Op}
-use Rattle.int_ops.specs.declared.Op.TheVariants as op
 use Rattle.index_types.specs.Indices.{is_index, wrapped}
-use Rattle.ivory_tree.specs.declared.PrefixOp.TheVariants as prefix
 use Rattle.source_types.specs.Values.{is_integer, is_index_type}
 use Rattle.step_semantics.specs.Steps.{World, Part, bind, tick, give}
 use Rattle.area_types.specs.Syntax as types
 use Rattle.area_types.specs.Syntax.{ValueType, Int, Ix}
-use Rattle.area_types.specs.Tables.{is_length}
 use Rattle.region_check.specs.Calls.{reference_of}
 use Rattle.core_tree.specs.Checks.{expr_checks}
 use Rattle.core_tree.specs.Operators.{cast_sites, indexing_sites, unless}
@@ -25,13 +18,13 @@ use Rattle.core_tree.specs.declared.Check.{Check}
 use Rattle.core_tree.specs.declared.SiteKind.{SiteKind}
 use Rattle.core_tree.specs.declared.SiteKind.TheVariants.{Index, Cast}
 use Rattle.core_tree.specs.TypedExpressions.{ExprTyped}
-use Rattle.core_tree.specs.Types.{has_values_of, has_indices_of, is_value}
-use Rattle.core_meaning.specs.Answers.{cast_to, index_to, wrapped_to, prefix_operation, in_kind}
+use Rattle.core_tree.specs.Types.{has_values_of, has_indices_of}
+use Rattle.core_meaning.specs.Answers.{cast_to, index_to, wrapped_to}
 use Rattle.core_meaning.specs.Checks.{Answer, tests_of, passes, answering, on_number, on_some}
 use Rattle.core_meaning.specs.Expressions.{eval}
 use Rattle.core_meaning.specs.Gives.{Gives}
 use Rattle.core_meaning.specs.State.{State}
-use Rattle.core_meaning.specs.Values.{Value, Num, Ref}
+use Rattle.core_meaning.specs.Values.{Value, Num}
 use Rattle.c_ast.specs.declared.CKind.TheVariants.{Scalar}
 use Rattle.c_ast.specs.declared.CScalar.TheVariants as scalar
 use Rattle.c_ast.specs.declared.Suffix.TheVariants.{Plain}
@@ -44,21 +37,21 @@ use Rattle.lower_values.specs.Conversions.{range_guard, valued, remainder, is_si
 use Rattle.lower_values.specs.Conversions as word
 use Rattle.lower_values.specs.Expressions.{raw}
 use Rattle.lower_values.specs.Frames.{kind_in, type_in}
-use Rattle.lower_values.specs.Pieces.{Piece, Same, Near, taken}
+use Rattle.lower_values.specs.Pieces.{Same, taken}
 use Rattle.lower_values.specs.Tests.{has_checks}
-use Rattle.value_refinement.specs.Answering.{GuardsTell}
-use Rattle.value_refinement.specs.FormLaws.{AreFor, Operand, never}
+use Rattle.form_answers.specs.Answering.{GuardsTell}
+use Rattle.form_answers.specs.FormLaws.{never}
 use Rattle.value_refinement.specs.Laws.{Numbered, Stage, RawFollows}
 use Rattle.value_refinement.specs.Settings.{Setting, Set}
-use Rattle.value_refinement.specs.Standing.{ExactlyIs, IsNumber}
+use Rattle.form_answers.specs.Standing.{ExactlyIs, IsNumber}
 use Rattle.value_refinement.specs.Values.{HasArithmetic, Simple}
-use Rattle.value_refinement.proofs.Casts.{casts_answer, indices_answer}
-use Rattle.value_refinement.proofs.Given.{never_refers, is_of_type, operand_follows, of_kind, many_checks, first_checks}
-use Rattle.value_refinement.proofs.NumberParts.{same_pieces, same_parts, checked_follows, stepped_follows}
-use Rattle.value_refinement.proofs.OperandValues.{exact_held, operand_given}
+use Rattle.form_answers.proofs.Casts.{casts_answer, indices_answer}
+use Rattle.value_refinement.proofs.Given.{is_of_type, operand_follows, of_kind, many_checks, first_checks}
+use Rattle.value_refinement.proofs.NumberParts.{same_parts, checked_follows, stepped_follows}
+use Rattle.form_answers.proofs.OperandValues.{exact_held, operand_given}
 use Rattle.value_refinement.proofs.Operands.{PieceFollows, as_raw}
 use Rattle.value_refinement.proofs.Types.{given_holds}
-use Rattle.value_refinement.proofs.WrappedIndices.{wraps_answer}
+use Rattle.form_answers.proofs.WrappedIndices.{wraps_answer}
 
 -- ---- answers of conversions
 

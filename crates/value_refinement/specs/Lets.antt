@@ -1,8 +1,8 @@
 -- The declaration of a local by its value: what a `let` takes and leaves on both sides.
-use Rattle.std.specs.Prelude.{◌≡◌, ℕ, ◌<◌, ◌≤◌, List, [], ◌∷◌, ◌++◌, Contains, slice_get, Bool, false, Option, Some, None}
+use Rattle.std.specs.Prelude.{◌≡◌, ℕ, ◌<◌, ◌≤◌, List, [], ◌∷◌, ◌++◌, Contains, slice_get, false, Option, Some, None}
 use Rattle.step_semantics.specs.Control.{Control, Falls, Broke, Returned}
 use Rattle.step_semantics.specs.Follows.{Follows}
-use Rattle.step_semantics.specs.Steps.{World, Part, bind, tick}
+use Rattle.step_semantics.specs.Steps.{World, bind, tick}
 use Rattle.area_types.specs.Syntax.{ValueType}
 use Rattle.core_tree.specs.Checks.{expr_checks}
 use Rattle.core_tree.specs.Syntax.{ExprCore, type_of}

@@ -21,7 +21,7 @@ use Rattle.area_objects.specs.Shapes.{shape, base_of}
 use Rattle.lower_types.specs.Types.{scalar_for}
 use Rattle.lower_values.specs.Expressions.{area_place, local_place, local_value, reference_to}
 use Rattle.value_refinement.specs.Settings.{Setting}
-use Rattle.value_refinement.specs.Standing.{HasScalar}
+use Rattle.form_answers.specs.Standing.{HasScalar}
 
 -- whether nothing may be written through a reference of the type
 abbrev pub is_constant : ValueType → Bool

@@ -1,6 +1,6 @@
 -- What the C of an expression stands among: the frame that it is made in, the program and the functions that it runs with, and what the
 -- source has around it; and what of this stays the same through a procedure.
-use Rattle.std.specs.Prelude.{◌≡◌, ◌≢◌, ℕ, ◌≤◌, List, length, slice_get, Option, Some, Bool}
+use Rattle.std.specs.Prelude.{◌≡◌, ◌≢◌, ℕ, ◌≤◌, List, slice_get, Option, Some, Bool}
 use Rattle.area_types.specs.Syntax as types
 use Rattle.area_types.specs.Syntax.{ValueType, Area}
 use Rattle.area_types.specs.Tables.{written_out}

@@ -2,8 +2,6 @@
 -- to do so while what it reads is kept.
 use Rattle.std.specs.Prelude.{◌≡◌, ◌≤◌, ℕ, List, Bool, true, false, Some, IsTrue}
 use Rattle.area_types.specs.Syntax.{ValueType}
-use Rattle.core_tree.specs.Syntax.{ExprCore, type_of}
-use Rattle.core_meaning.specs.Gives.{Gives}
 use Rattle.core_meaning.specs.State.{State}
 use Rattle.core_meaning.specs.Values.{Value, Num, Ref}
 use Rattle.c_ast.specs.Syntax.{Expr, Place}
@@ -13,12 +11,11 @@ use Rattle.c_meaning.specs.Expressions.{static_type}
 use Rattle.c_meaning.specs.State.{Program, CState}
 use Rattle.area_objects.specs.Both.{Map}
 use Rattle.lower_types.specs.Types.{scalar_for}
-use Rattle.lower_values.specs.Expressions.{raw, place}
 use Rattle.lower_values.specs.Pieces.{Piece, Standing, Exact, Same, Near, is_atom}
 use Rattle.value_refinement.specs.Kept.{Kept}
 use Rattle.value_refinement.specs.Related.{is_constant, PointerIs, PlaceIs}
 use Rattle.value_refinement.specs.Settings.{Setting}
-use Rattle.value_refinement.specs.Standing.{Stands}
+use Rattle.form_answers.specs.Standing.{Stands}
 
 -- the type of the expression is that of a number
 pub record HasArithmetic (p : Program) (w : CState) (e : Expr) : Type 0 where

@@ -1,4 +1,6 @@
-//! The C of an expression does what the expression does, counted both ways.
+//! The C of each expression follows it: in related states, step for step, to a value that it stands for.
+//!
+//! The definitions are in `specs`, the lemmas in `proofs`, one file for each form. The functions do nothing: each carries a law.
 #![tactic(auto)]
 
 pub mod laws;

@@ -1,6 +1,4 @@
 use Rattle.value_refinement.proofs.Standings.{related_on}
-use Rattle.value_refinement.proofs.Logic
-use Rattle.value_refinement.proofs.Choices
 use Rattle.value_refinement.proofs.laws.states_stay_related.Goals as goal
 
 pub returns : goal.returns

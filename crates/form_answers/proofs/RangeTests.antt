@@ -31,8 +31,8 @@ use Rattle.overflow_checks.proofs.SignedValues.{IsSigned, compares, given_is, op
 use Rattle.overflow_checks.proofs.Tables.{CTable, table_of_target}
 use Rattle.lower_types.specs.Constants.{number_for, signed_limit}
 use Rattle.lower_values.specs.Conversions.{joined, is_within}
-use Rattle.value_refinement.specs.Standing.{TestIs}
-use Rattle.value_refinement.proofs.Guards.{truth_tested}
+use Rattle.form_answers.specs.Standing.{TestIs}
+use Rattle.form_answers.proofs.Guards.{truth_tested}
 
 -- an end that may stand beside a number of a signed or an unsigned type: neither converts the other
 abbrev pub IsEnd : (signed : Bool) → ℤ → Type 0

@@ -36,12 +36,12 @@ use Rattle.lower_values.specs.Conversions.{mask, unsigned, set_guard, set_settle
 use Rattle.overflow_checks.proofs.Tables.{CTable, table_of_target}
 use Rattle.overflow_checks.proofs.Numbers.{same_test, from_zero}
 use Rattle.overflow_checks.proofs.Rows.{Tests}
-use Rattle.value_refinement.specs.Answering.{GuardTells, GuardsTell}
-use Rattle.value_refinement.specs.FormLaws.{AreFor}
-use Rattle.value_refinement.specs.Standing.{ExactlyIs, TestIs}
-use Rattle.value_refinement.proofs.OperandValues.{IsHeld, exact_held}
-use Rattle.value_refinement.proofs.Naturals.{unsigned_held, natural_tests}
-use Rattle.value_refinement.proofs.FieldValues.{IsInWord, mask_few}
+use Rattle.form_answers.specs.Answering.{GuardTells, GuardsTell}
+use Rattle.form_answers.specs.FormLaws.{AreFor}
+use Rattle.form_answers.specs.Standing.{ExactlyIs, TestIs}
+use Rattle.form_answers.proofs.OperandValues.{IsHeld, exact_held}
+use Rattle.form_answers.proofs.Naturals.{unsigned_held, natural_tests}
+use Rattle.form_answers.proofs.FieldValues.{IsInWord, mask_few}
 
 -- ---- numbers of a field's type
 

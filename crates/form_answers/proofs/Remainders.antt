@@ -16,7 +16,7 @@ use Rattle.c_meaning.specs.Values.{on_ok}
 use Rattle.c_meaning.specs.Operators.{fitted, quotient, remainder}
 use Rattle.overflow_checks.proofs.Alike.{fitted_held}
 use Rattle.overflow_checks.proofs.SignedNumbers.{natural_below, negative_below, natural_held, opposite_held, quotient_test}
-use Rattle.value_refinement.proofs.Naturals.{not_negative}
+use Rattle.form_answers.proofs.Naturals.{not_negative}
 
 not_zero : (n : ℕ) → 1 ≤ n → int_eq (pos n) (pos 0) ≡ false
 not_zero n some = let d = Decides-int_eq (pos n) (pos 0) in grind arith

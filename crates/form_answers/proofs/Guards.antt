@@ -10,9 +10,9 @@ use Rattle.c_meaning.specs.Operators.{truth}
 use Rattle.c_meaning.specs.Values.{is_true, on_ok}
 use Rattle.c_meaning.specs.State.{Program, CState}
 use Rattle.overflow_checks.proofs.Rows.{Tests}
-use Rattle.value_refinement.specs.Answering.{GuardTells, GuardsTell}
-use Rattle.value_refinement.specs.FormLaws.{AreFor, never}
-use Rattle.value_refinement.specs.Standing.{TestIs}
+use Rattle.form_answers.specs.Answering.{GuardTells, GuardsTell}
+use Rattle.form_answers.specs.FormLaws.{AreFor, never}
+use Rattle.form_answers.specs.Standing.{TestIs}
 
 -- ---- one guard
 

@@ -20,12 +20,12 @@ use Rattle.c_meaning.specs.State.{Program, CState}
 use Rattle.overflow_checks.proofs.Numbers.{same_test}
 use Rattle.lower_values.specs.Conversions.{range_guard, valued}
 use Rattle.lower_values.specs.Frames.{Frame}
-use Rattle.value_refinement.specs.Answering.{GuardsTell}
-use Rattle.value_refinement.specs.FormLaws.{AreFor, never, Operand, CastsAnswer, IndicesAnswer}
-use Rattle.value_refinement.specs.Standing.{TestIs}
-use Rattle.value_refinement.proofs.ExactOperands.{is_given, has_number}
-use Rattle.value_refinement.proofs.Guards.{one_tells}
-use Rattle.value_refinement.proofs.RangeTests.{IsEnd, IsBetween, within_tests}
+use Rattle.form_answers.specs.Answering.{GuardsTell}
+use Rattle.form_answers.specs.FormLaws.{AreFor, never, Operand, CastsAnswer, IndicesAnswer}
+use Rattle.form_answers.specs.Standing.{TestIs}
+use Rattle.form_answers.proofs.ExactOperands.{is_given, has_number}
+use Rattle.form_answers.proofs.Guards.{one_tells}
+use Rattle.form_answers.proofs.RangeTests.{IsEnd, IsBetween, within_tests}
 
 -- ---- the ends of the kinds
 

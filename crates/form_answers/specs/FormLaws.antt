@@ -33,8 +33,8 @@ use Rattle.lower_values.specs.Ranges.{settled}
 use Rattle.lower_values.specs.Operators.{guard_in, computed, compared}
 use Rattle.lower_values.specs.Conversions.{range_guard, valued, remainder, is_signed_type, set_guard, set_settled, put_in}
 use Rattle.lower_values.specs.Conversions as word
-use Rattle.value_refinement.specs.Answering.{GuardsTell}
-use Rattle.value_refinement.specs.Standing.{ExactlyIs, IsNumber, Converts}
+use Rattle.form_answers.specs.Answering.{GuardsTell}
+use Rattle.form_answers.specs.Standing.{ExactlyIs, IsNumber, Converts}
 
 abbrev pub never : {A : Type 0} → A → Bool
 never which = false

@@ -32,7 +32,7 @@ use Rattle.overflow_checks.proofs.Alike.{fitted_held, AreNatural, left_kept, rig
 use Rattle.overflow_checks.proofs.Constants.{plain_typed, unsigned_typed}
 use Rattle.overflow_checks.proofs.Numbers.{below, natural}
 use Rattle.overflow_checks.proofs.SignedNumbers.{from_zero, natural_below}
-use Rattle.value_refinement.proofs.OperandValues.{IsHeld}
+use Rattle.form_answers.proofs.OperandValues.{IsHeld}
 
 -- ---- numbers
 

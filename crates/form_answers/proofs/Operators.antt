@@ -33,10 +33,10 @@ use Rattle.overflow_checks.proofs.SignedNumbers.{quotient_test}
 use Rattle.lower_values.specs.Frames.{Frame, int_bits_of}
 use Rattle.lower_values.specs.Operators.{guard_in, computed}
 use Rattle.lower_values.specs.Ranges.{settled, settled_by, is_division}
-use Rattle.value_refinement.specs.FormLaws.{Operand, OperatorsAnswer}
-use Rattle.value_refinement.specs.Standing.{Converts, TestIs}
-use Rattle.value_refinement.proofs.ExactOperands.{is_operand, stands_for}
-use Rattle.value_refinement.proofs.Guards.{Tells, EachTells, guards_tell, tells}
+use Rattle.form_answers.specs.FormLaws.{Operand, OperatorsAnswer}
+use Rattle.form_answers.specs.Standing.{Converts, TestIs}
+use Rattle.form_answers.proofs.ExactOperands.{is_operand, stands_for}
+use Rattle.form_answers.proofs.Guards.{Tells, EachTells, guards_tell, tells}
 
 -- ---- what a value says that is 0 exactly where the operator stops
 

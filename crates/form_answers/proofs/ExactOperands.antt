@@ -10,8 +10,8 @@ use Rattle.c_meaning.specs.State.{Program, CState}
 use Rattle.overflow_checks.specs.Contract.{IsOperand, IsGiven, StandsFor}
 use Rattle.overflow_checks.proofs.Given.{operand_is_given}
 use Rattle.lower_values.specs.Conversions.{valued}
-use Rattle.value_refinement.specs.Standing.{HasScalar, IsNumber}
-use Rattle.value_refinement.specs.FormLaws.{Operand}
+use Rattle.form_answers.specs.Standing.{HasScalar, IsNumber}
+use Rattle.form_answers.specs.FormLaws.{Operand}
 
 module _ (p : Program) (u : CState) (kind : IntKind) where
   pub is_operand : (e : Expr) (n : ℤ) → Operand p u kind e n → IsOperand p.target kind e

@@ -29,13 +29,13 @@ use Rattle.overflow_checks.specs.Parts.{operand_of, cast_to}
 use Rattle.overflow_checks.proofs.Tables.{CTable, table_of_target}
 use Rattle.overflow_checks.proofs.Given.{cast_gives}
 use Rattle.overflow_checks.proofs.Numbers.{natural}
-use Rattle.value_refinement.specs.FormLaws.{Operand, SetsAnswer}
-use Rattle.value_refinement.specs.Standing.{ExactlyIs, Converts}
-use Rattle.value_refinement.proofs.OperandValues.{IsHeld}
-use Rattle.value_refinement.proofs.Naturals.{IsWord, word_held, unsigned_held, given_word, bits_give, left_shift_gives}
-use Rattle.value_refinement.proofs.FieldMasks.{cleared_is_small, number_is_put}
-use Rattle.value_refinement.proofs.FieldValues.{IsInWord, field_in_word, word_of}
-use Rattle.value_refinement.proofs.FieldGuards.{has_room, field_from_zero, value_is, mask_has, set_guards_tell}
+use Rattle.form_answers.specs.FormLaws.{Operand, SetsAnswer}
+use Rattle.form_answers.specs.Standing.{ExactlyIs, Converts}
+use Rattle.form_answers.proofs.OperandValues.{IsHeld}
+use Rattle.form_answers.proofs.Naturals.{IsWord, word_held, unsigned_held, given_word, bits_give, left_shift_gives}
+use Rattle.form_answers.proofs.FieldMasks.{cleared_is_small, number_is_put}
+use Rattle.form_answers.proofs.FieldValues.{IsInWord, field_in_word, word_of}
+use Rattle.form_answers.proofs.FieldGuards.{has_room, field_from_zero, value_is, mask_has, set_guards_tell}
 
 -- a number that fits, in the field's place
 moved_small : (word low bits m : ℕ) → low + bits ≤ word → m < 2 ^ bits → m * 2 ^ low < 2 ^ word

@@ -1,7 +1,7 @@
-use Rattle.value_refinement.proofs.FieldSets.{sets_answer}
-use Rattle.value_refinement.proofs.FieldValues.{fields_answer}
-use Rattle.value_refinement.proofs.WrappedIndices.{wraps_answer}
-use Rattle.value_refinement.proofs.laws.fields_and_indices_answer.Goals as goal
+use Rattle.form_answers.proofs.FieldSets.{sets_answer}
+use Rattle.form_answers.proofs.FieldValues.{fields_answer}
+use Rattle.form_answers.proofs.WrappedIndices.{wraps_answer}
+use Rattle.form_answers.proofs.laws.fields_and_indices_answer.Goals as goal
 
 pub returns-clause-wraps : goal.returns-clause-wraps
 returns-clause-wraps c = wraps_answer

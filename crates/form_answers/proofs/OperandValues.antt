@@ -19,8 +19,8 @@ use Rattle.c_meaning.proofs.Expressions.{first_holds}
 use Rattle.overflow_checks.specs.Contract.{IsGiven}
 use Rattle.overflow_checks.specs.Parts.{operand_of}
 use Rattle.overflow_checks.proofs.Given.{constant_gives, operand_is_given}
-use Rattle.value_refinement.specs.FormLaws.{Operand}
-use Rattle.value_refinement.specs.Standing.{ExactlyIs}
+use Rattle.form_answers.specs.FormLaws.{Operand}
+use Rattle.form_answers.specs.Standing.{ExactlyIs}
 
 module _ (p : Program) (u : CState) where
   pub operand_given : (kind : IntKind) (e : Expr) (n : ℤ) → Operand p u kind e n → IsGiven p u kind (operand_of (width kind) (is_signed kind) e) n

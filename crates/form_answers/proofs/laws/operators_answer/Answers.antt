@@ -1,7 +1,7 @@
-use Rattle.value_refinement.proofs.Casts.{casts_answer, indices_answer}
-use Rattle.value_refinement.proofs.Operators.{operators_answer}
-use Rattle.value_refinement.proofs.Truths.{truths_compare, negations_answer}
-use Rattle.value_refinement.proofs.laws.operators_answer.Goals as goal
+use Rattle.form_answers.proofs.Casts.{casts_answer, indices_answer}
+use Rattle.form_answers.proofs.Operators.{operators_answer}
+use Rattle.form_answers.proofs.Truths.{truths_compare, negations_answer}
+use Rattle.form_answers.proofs.laws.operators_answer.Goals as goal
 
 pub returns-clause-operators : goal.returns-clause-operators
 returns-clause-operators c = operators_answer

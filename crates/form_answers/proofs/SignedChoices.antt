@@ -30,8 +30,8 @@ use Rattle.overflow_checks.proofs.Constants.{IsTyped, plain_typed}
 use Rattle.overflow_checks.proofs.SignedNaturals.{zero_type}
 use Rattle.overflow_checks.proofs.SignedNumbers.{natural_held}
 use Rattle.lower_values.specs.Conversions.{remainder}
-use Rattle.value_refinement.specs.Standing.{IsNumber}
-use Rattle.value_refinement.proofs.Remainders.{remainder_is, signed_quotient_held, rest_held, moved_held, moved}
+use Rattle.form_answers.specs.Standing.{IsNumber}
+use Rattle.form_answers.proofs.Remainders.{remainder_is, signed_quotient_held, rest_held, moved_held, moved}
 
 module _ (p : Program) (u : CState) (table : CTable (table_of p.target)) (kind : IntKind) (signed : is_signed kind ≡ true) (e : Expr) (x : ℤ) (given : IsGiven p u kind e x)
     (n : ℕ) (some : 1 ≤ n) (small : n < 2 ^ 63) where

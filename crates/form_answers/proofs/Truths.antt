@@ -30,8 +30,8 @@ use Rattle.overflow_checks.proofs.Alike.{AreNatural, compared_natural}
 use Rattle.overflow_checks.proofs.Given.{binary_gives, unary_gives, constant_gives}
 use Rattle.overflow_checks.proofs.Rows.{Tests}
 use Rattle.overflow_checks.proofs.Tables.{table_of_target}
-use Rattle.value_refinement.specs.FormLaws.{TruthsCompare, NegationsAnswer}
-use Rattle.value_refinement.specs.Standing.{HasScalar, ExactlyIs, Converts}
+use Rattle.form_answers.specs.FormLaws.{TruthsCompare, NegationsAnswer}
+use Rattle.form_answers.specs.Standing.{HasScalar, ExactlyIs, Converts}
 
 -- ---- what an operand that stands exactly evaluates to
 

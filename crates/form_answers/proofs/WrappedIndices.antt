@@ -20,12 +20,12 @@ use Rattle.overflow_checks.proofs.Alike.{left_kept}
 use Rattle.overflow_checks.proofs.Numbers.{quotient_held}
 use Rattle.overflow_checks.proofs.SignedNumbers.{from_zero}
 use Rattle.lower_values.specs.Conversions.{remainder}
-use Rattle.value_refinement.specs.FormLaws.{WrapsAnswer}
-use Rattle.value_refinement.specs.Standing.{IsNumber}
-use Rattle.value_refinement.proofs.OperandValues.{operand_given, IsHeld}
-use Rattle.value_refinement.proofs.Naturals.{plain_held, are_natural, natural_gives}
-use Rattle.value_refinement.proofs.Remainders.{remainder_is, rest_wraps}
-use Rattle.value_refinement.proofs.SignedChoices.{signed_remainder}
+use Rattle.form_answers.specs.FormLaws.{WrapsAnswer}
+use Rattle.form_answers.specs.Standing.{IsNumber}
+use Rattle.form_answers.proofs.OperandValues.{operand_given, IsHeld}
+use Rattle.form_answers.proofs.Naturals.{plain_held, are_natural, natural_gives}
+use Rattle.form_answers.proofs.Remainders.{remainder_is, rest_wraps}
+use Rattle.form_answers.proofs.SignedChoices.{signed_remainder}
 
 first : (n : ℕ) → IsTrue (is_length n) → 1 ≤ n
 first n h = grind arith

@@ -5,7 +5,7 @@ use Rattle.core_tree.specs.declared.SiteKind.{SiteKind}
 use Rattle.core_meaning.specs.Checks.{Answer, holds}
 use Rattle.c_ast.specs.Syntax.{Expr}
 use Rattle.c_meaning.specs.State.{Program, CState}
-use Rattle.value_refinement.specs.Standing.{TestIs}
+use Rattle.form_answers.specs.Standing.{TestIs}
 
 -- a check that is settled holds; the guard of another is true just where the check holds
 abbrev pub GuardTells : (is_settled : Bool) → Program → CState → Expr → Bool → Type 0

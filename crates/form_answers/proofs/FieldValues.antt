@@ -24,10 +24,10 @@ use Rattle.overflow_checks.proofs.Tables.{CTable, table_of_target}
 use Rattle.overflow_checks.proofs.Numbers.{below}
 use Rattle.lower_values.specs.Conversions.{mask, unsigned, shifted_down}
 use Rattle.lower_values.specs.Conversions as lowered
-use Rattle.value_refinement.specs.FormLaws.{FieldIs, Operand, FieldsAnswer}
-use Rattle.value_refinement.specs.Standing.{IsNumber}
-use Rattle.value_refinement.proofs.OperandValues.{operand_given}
-use Rattle.value_refinement.proofs.Naturals.{IsWord, unsigned_held, given_word, bits_give, right_shift_gives}
+use Rattle.form_answers.specs.FormLaws.{FieldIs, Operand, FieldsAnswer}
+use Rattle.form_answers.specs.Standing.{IsNumber}
+use Rattle.form_answers.proofs.OperandValues.{operand_given}
+use Rattle.form_answers.proofs.Naturals.{IsWord, unsigned_held, given_word, bits_give, right_shift_gives}
 
 -- ---- where the field is
 

@@ -1,0 +1,15 @@
+pub mod OperandValues
+pub mod Naturals
+pub mod Remainders
+pub mod SignedChoices
+pub mod WrappedIndices
+pub mod FieldMasks
+pub mod FieldValues
+pub mod FieldGuards
+pub mod FieldSets
+pub mod ExactOperands
+pub mod Guards
+pub mod Operators
+pub mod Truths
+pub mod RangeTests
+pub mod Casts

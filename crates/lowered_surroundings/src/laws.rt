@@ -1,0 +1,11 @@
+ghost use Rattle.lowered_surroundings.specs.Laws.{ProceduresAreSet, ScopedStatesAreStaged};
+
+/// The body of each procedure of a valid module is set, whatever checks are left out.
+pub fn procedures_are_set()
+    ensures { ProceduresAreSet }
+{}
+
+/// A state that is scoped for an open call of a procedure is staged for its expressions.
+pub fn scoped_states_are_staged()
+    ensures { ScopedStatesAreStaged }
+{}

@@ -5,7 +5,7 @@ use Rattle.area_types.specs.Syntax.{ValueType, Truth, Int, Ix, Bits, Ref, Area, 
 use Rattle.area_types.specs.Tables.{structs_of}
 use Rattle.core_tree.specs.Syntax.{StmtCore, Let, LetCall, Alloc, Store, Copy, Call, If, IfElse, Map, Upto, Downto, Forever, Break, Return, Assert, NoAlloc, NoBreak, NoReturn, StmtsCore, NoStmts, MoreStmts, AreaCore, ImportCore, ParamCore, ProcCore, ModuleCore}
 use Rattle.core_tree.specs.Environments.{Env, Point, all_locals, after, skipping, narrowing, looping, within_loop}
-use Rattle.core_tree.specs.TypedItems.{AreaTyped, ImportTyped, ProcTyped, env_of, param_types, start, is_result}
+use Rattle.core_tree.specs.TypedItems.{AreaTyped, ImportTyped, ProcTyped, env_of, param_types, start}
 use Rattle.core_tree.specs.TypedStatements.{StmtTyped, StmtsTyped}
 use Rattle.core_tree.specs.Types.{is_core_area, is_type}
 use Rattle.region_check.specs.Found.{region_count}
@@ -14,7 +14,7 @@ use Rattle.core_tree.specs.Valid.{ValidCore}
 use Rattle.region_soundness.proofs.Structs.{Made, core_area_made}
 use Rattle.lower_types.specs.Arrays.{Declared, met, met_type, met_result, met_stmt, met_stmts, met_structs, met_areas, met_types, met_imports, met_params, met_procs, declared}
 use Rattle.lowered_surroundings.proofs.Meeting.{Known, Good, Grows, same_grows, grows_on, met_grows, met_known, structs_good}
-use Rattle.lowered_surroundings.proofs.Staged.{IsMade, type_made}
+use Rattle.lowered_surroundings.proofs.Staged.{IsMade, type_made, result_made}
 
 module _ (core : ModuleCore) where
   abbrev structs : List StructType
@@ -116,22 +116,21 @@ module _ (core : ModuleCore) where
       let here : p.ty ≡ ty = cc in
       subst (TypeKnown (met_params (met_type d p.ty) ps)) here
       (type_kept (met_type d p.ty) (met_params (met_type d p.ty) ps) (params_grow (met_type d p.ty) ps (All-tail (IsMade core.structs) p.ty rest h)) p.ty
-          (type_known d p.ty (All-head (IsMade core.structs) p.ty rest h) g))
+      (type_known d p.ty (All-head (IsMade core.structs) p.ty rest h) g))
   params_known d (p ∷ ps) h g (suc k) ty e =
       let rest = map (λ (x : ParamCore). x.ty) ps in
       params_known (met_type d p.ty) ps (All-tail (IsMade core.structs) p.ty rest h) ((type_grows d p.ty (All-head (IsMade core.structs) p.ty rest h)).good g) k ty e
 
   abbrev ResultMade : Option ValueType → Type 0
-  ResultMade None = Unit {0}
-  ResultMade (Some ty) = IsMade core.structs ty
+  ResultMade r = (ty : ValueType) → r ≡ Some ty → IsMade core.structs ty
 
   result_grows : (d : Declared) (r : Option ValueType) → ResultMade r → Grown d (met_result d r)
   result_grows d None m = same d
-  result_grows d (Some ty) m = type_grows d ty m
+  result_grows d (Some ty) m = type_grows d ty (m ty refl)
 
   result_known : (d : Declared) (r : Option ValueType) → ResultMade r → GoodHere d → (ty : ValueType) → r ≡ Some ty → TypeKnown (met_result d r) ty
   result_known d None m g ty e = let no : ⊥ = cc in absurd no
-  result_known d (Some t) m g ty e = let here : t ≡ ty = cc in subst (TypeKnown (met_type d t)) here (type_known d t m g)
+  result_known d (Some t) m g ty e = let here : t ≡ ty = cc in subst (TypeKnown (met_type d t)) here (type_known d t (m t refl) g)
 
   -- ---- bodies
 
@@ -176,10 +175,6 @@ module _ (core : ModuleCore) where
       All-cons (λ (i : ImportCore). All (IsMade core.structs) i.params) i is (all_made (region_count 0 i.params) i.params (All-head (ImportTyped core) i is h).params.types)
       (imports_made is (All-tail (ImportTyped core) i is h))
 
-  result_made : (p : ProcCore) (r : Option ValueType) → IsTrue (is_result core.structs p r) → ResultMade r
-  result_made p None h = tt
-  result_made p (Some ty) h = type_made core.structs (region_count 0 (param_types p)) ty h
-
   pub record TypedAfter (p : ProcCore) : Type 0 where
     pub earlier : List ProcCore
     pub typed : ProcTyped core earlier p
@@ -196,7 +191,7 @@ module _ (core : ModuleCore) where
 
   head_grows : (d : Declared) (p : ProcCore) → TypedAfter p → Grown d (with_head d p)
   head_grows d p t =
-      on d (met_params d p.params) (with_head d p) (params_grow d p.params (params_made p t)) (result_grows (met_params d p.params) p.result (result_made p p.result t.typed.result))
+      on d (met_params d p.params) (with_head d p) (params_grow d p.params (params_made p t)) (result_grows (met_params d p.params) p.result (result_made core.structs p p.result t.typed.result))
 
   body_grows : (d : Declared) (p : ProcCore) → TypedAfter p → Grown d (met_stmts d p.body)
   body_grows d p t = stmts_grow (env_of core t.earlier p) refl d (start p) p.body t.typed.body
@@ -225,7 +220,7 @@ module _ (core : ModuleCore) where
     pub met_params_known : (k : ℕ) (ty : ValueType) → slice_get (param_types p) k ≡ Some ty → TypeKnown all ty
     met_params_known k ty e =
         let d : Declared = met_params m.before p.params in
-        let after_result : Grown d (with_head m.before p) = result_grows d p.result (result_made p p.result t.typed.result) in
+        let after_result : Grown d (with_head m.before p) = result_grows d p.result (result_made core.structs p p.result t.typed.result) in
         let after_body : Grown (with_head m.before p) (with_proc m.before p) = body_grows (with_head m.before p) p t in
         type_kept d all (on d (with_head m.before p) all after_result (on (with_head m.before p) (with_proc m.before p) all after_body m.later)) ty
         (params_known m.before p.params (params_made p t) m.good k ty e)
@@ -235,7 +230,7 @@ module _ (core : ModuleCore) where
         let d : Declared = met_params m.before p.params in
         let good : GoodHere d = (params_grow m.before p.params (params_made p t)).good m.good in
         type_kept (with_head m.before p) all (on (with_head m.before p) (with_proc m.before p) all (body_grows (with_head m.before p) p t) m.later) ty
-        (result_known d p.result (result_made p p.result t.typed.result) good ty e)
+        (result_known d p.result (result_made core.structs p p.result t.typed.result) good ty e)
 
     pub body_good : Good structs words (length structs) (with_head m.before p)
     body_good = (head_grows m.before p t).good m.good
@@ -257,8 +252,8 @@ module _ (core : ModuleCore) where
       let d2 : Declared = met_imports d1 core.imports in
       let none : Good structs words 0 [] = record { ordered = tt; numbered = λ i low. absurd (omega (arith, low)) } in
       let g0 : GoodHere d0 =
-          subst (λ n. Good structs words n d0) (let e : 0 + length structs ≡ length structs = omega arith in e)
-          (structs_good structs words core.structs.words refl structs [] 0 [] refl valid.table (λ j s e. subst (λ n. slice_get structs n ≡ Some s) (let z : j ≡ 0 + j = omega arith in z) e) none) in
+      subst (λ n. Good structs words n d0) (let e : 0 + length structs ≡ length structs = omega arith in e)
+      (structs_good structs words core.structs.words refl structs [] 0 [] refl valid.table (λ j s e. subst (λ n. slice_get structs n ≡ Some s) (let z : j ≡ 0 + j = omega arith in z) e) none) in
       let a : Grown d0 d1 = areas_grow d0 core.areas valid.areas in
       let i : Grown d1 d2 = imports_grow d1 core.imports (imports_made core.imports valid.imports) in
       let p : Grown d2 (declared core) = procs_grow d2 core.procs (proc_typed valid) in

@@ -203,7 +203,7 @@ module _ (core : ModuleCore) (valid : ValidCore core) (all : Declared) where
     row_is d more e k (f ∷ fs) i known named =
         let first : names.member k i ≡ item_name f.name = subst (λ n. names.member k n ≡ item_name f.name) (let z : i + 0 ≡ i = omega arith in z) (named 0 f refl) in
         let rest = row_is d more e k fs (suc i) (λ j x h. known (suc j) x h)
-            (λ j x h. subst (λ n. names.member k n ≡ item_name x.name) (let z : i + suc j ≡ suc i + j = omega arith in z) (named (suc j) x h)) in
+        (λ j x h. subst (λ n. names.member k n ≡ item_name x.name) (let z : i + suc j ≡ suc i + j = omega arith in z) (named (suc j) x h)) in
         ap (λ w. trees.Field w (base_tree (map entry d) (base_for types f.area)) (row_of (map entry d) (map (member_for types) fs))) (sym first)
         ∙ ap (λ x. trees.Field (names.member k i) x (row_of (map entry d) (map (member_for types) fs))) (tree_found d more f.area e (known 0 f refl))
         ∙ ap (trees.Field (names.member k i) (shaped f.area)) rest
@@ -219,7 +219,7 @@ module _ (core : ModuleCore) (valid : ValidCore core) (all : Declared) where
         let s : StructType = p.struct_type in
         let w : Name = type_name (Struct k) in
         let row : row_of (map entry d) (map (member_for types) s.fields) ≡ members names (fields_from 0 (trees_of structs) s.fields) k =
-            row_is d more e k s.fields 0 p.fields (λ j f h. subst (λ n. names.member k n ≡ item_name f.name) (let z : j ≡ 0 + j = omega arith in z) (ap (λ o. field_name (slice_get (fields_of o) j)) p.found ∙ ap field_name h)) in
+        row_is d more e k s.fields 0 p.fields (λ j f h. subst (λ n. names.member k n ≡ item_name f.name) (let z : j ≡ 0 + j = omega arith in z) (ap (λ o. field_name (slice_get (fields_of o) j)) p.found ∙ ap field_name h)) in
         ap (λ o. trees.Struct w (row_of (map entry d) (members_of types o))) p.found
         ∙ ap (trees.Struct w) row
         ∙ ap (shape names) (sym (struct_there core.structs.words structs k s valid.table p.found).is)

@@ -1,5 +1,5 @@
 -- What holds of the types of names, and passes on to what is stored in an area and to its parts, holds of the type of each typed expression.
-use Rattle.std.proofs.Common.{◌≡◌, ⊎_elim, ℕ, Bool, true, false, ◌||◌, if◌then◌else◌, List, [], ◌∷◌, All, Contains, slice_get, Some, IsTrue, sym, subst, zero, suc}
+use Rattle.std.proofs.Common.{◌≡◌, ⊎_elim, ℕ, Bool, true, false, ◌||◌, if◌then◌else◌, List, [], ◌∷◌, All, Contains, slice_get, Some, None, IsTrue, sym, subst, zero, suc}
 use Rattle.std.proofs.lemmas.List.Elements.{All-head, All-tail}
 use Rattle.ivory_tree.specs.declared.BinOp.{BinOp}
 use Rattle.ivory_tree.specs.declared.PrefixOp.{PrefixOp}
@@ -24,6 +24,10 @@ pub all_at : {A : Type 0} (P : A → Type 0) (xs : List A) (k : ℕ) (x : A) →
 all_at P [] k x h e = let no : ⊥ = cc in absurd no
 all_at P (y ∷ xs) zero x h e = let same : y ≡ x = cc in subst P same (All-head P y xs h)
 all_at P (y ∷ xs) (suc k) x h e = all_at P xs k x (All-tail P y xs h) e
+
+-- in a body there is no result
+pub no_outcome : (ty : ValueType) → None ≡ Some ty → ⊥
+no_outcome ty e = cc
 
 -- a property of the types that are met in these surroundings
 pub record Passes (env : Env) (scope : List ℕ) (P : ValueType → Type 0) : Type 0 where

@@ -23,7 +23,7 @@ use Rattle.region_soundness.proofs.Structs.{core_area_made, struct_field_is}
 use Rattle.lower_types.specs.Arrays.{Declared, met_stmt, met_stmts}
 use Rattle.lowered_surroundings.proofs.Collected.{TypeKnown, AllMet, area_known, stmt_grows, stmts_grow, proc_typed, with_head, met_params_known, met_result_known, body_good}
 use Rattle.lowered_surroundings.proofs.DeclaredTypes.{parts_declared}
-use Rattle.lowered_surroundings.proofs.ExpressionTypes.{Passes, types_hold}
+use Rattle.lowered_surroundings.proofs.ExpressionTypes.{Passes, types_hold, no_outcome}
 use Rattle.lowered_surroundings.proofs.Meeting.{Known, FieldsKnown, Good}
 
 contains_cases : (x z : ℕ) (xs : List ℕ) → Contains (x ∷ xs) z → (x ≡ z) ⊎ Contains xs z
@@ -59,16 +59,16 @@ module _ (core : ModuleCore) (valid : ValidCore core) (all : Declared) (every : 
 
   -- ---- expressions
 
-  known_passes : (env : Env) → env.core ≡ core → env.outcome ≡ None → (scope : List ℕ)
+  known_passes : (env : Env) → env.core ≡ core → ((ty : ValueType) → env.outcome ≡ Some ty → TypeHere ty) → (scope : List ℕ)
       → ((x : ℕ) (ty : ValueType) → Contains scope x → slice_get env.locals x ≡ Some ty → TypeHere ty) → Passes env scope TypeHere
-  known_passes env own none scope locals = record {
+  known_passes env own named scope locals = record {
     truth = tt;
     int = λ kind. tt;
     index = λ n h. tt;
     bits = λ j. tt;
     area = λ j a e. every.areas j a (subst (λ (c : ModuleCore). slice_get c.areas j ≡ Some a) own e);
     local = locals;
-    outcome = λ ty e. let no : ⊥ = cc in absurd no;
+    outcome = named;
     stored = λ constant region ty k. stored_known ty k;
     field = λ constant region j f area e k. field_known j f area (subst (λ (c : ModuleCore). struct_field c j f ≡ Some area) own e) k;
     element = λ constant region n area k. parts_declared core valid all [] all (Array n area) every.good.ordered k;
@@ -128,7 +128,7 @@ module _ (core : ModuleCore) (valid : ValidCore core) (all : Declared) (every : 
     ScopeBelow at = (x : ℕ) → Contains at.scope x → x < at.next
 
     expr_known : (at : Point) → ScopeBelow at → LocalsKnown at.next → (e : ExprCore) → ExprTyped around at.scope e → TypeHere (type_of e)
-    expr_known at low known e t = types_hold around at.scope TypeHere (known_passes around refl refl at.scope (λ x ty inside f. known x ty (low x inside) f)) e t
+    expr_known at low known e t = types_hold around at.scope TypeHere (known_passes around refl (λ ty none. absurd (no_outcome ty none)) at.scope (λ x ty inside f. known x ty (low x inside) f)) e t
 
     fewer : (m n : ℕ) → m ≤ n → LocalsKnown n → LocalsKnown m
     fewer m n le known x ty low e = known x ty (omega (arith, low, le)) e
@@ -201,7 +201,7 @@ module _ (core : ModuleCore) (valid : ValidCore core) (all : Declared) (every : 
           let on = stmts_grow core around refl (met_stmts d first) (skipping (all_locals first) at) second t.2 in
           let once : LocalsKnown (at.next + all_locals first) = stmts_known at d first g (λ a k. kept a (on.kept a k)) t.1 low known in
           let twice : LocalsKnown (at.next + all_locals first + all_locals second) =
-              stmts_known (skipping (all_locals first) at) (met_stmts d first) second (grown.good g) kept t.2 (scope_on (all_locals first) at low) once in
+          stmts_known (skipping (all_locals first) at) (met_stmts d first) second (grown.good g) kept t.2 (scope_on (all_locals first) at low) once in
           fewer (at.next + (all_locals first + all_locals second)) (at.next + all_locals first + all_locals second) (omega arith) twice
       stmt_known at d (Map number size body) g kept t low known = loop_known at number size body t.0 (stmts_known (within_loop number at) d body g kept t.1) low known
       stmt_known at d (Upto number size bound body) g kept t low known = loop_known at number size body t.0 (stmts_known (within_loop number at) d body g kept t.2) low known
@@ -262,7 +262,12 @@ module _ (core : ModuleCore) (valid : ValidCore core) (all : Declared) (every : 
       stmts_known core valid all every (take k core.procs) earlier_results p (start p) (with_head core met.before p) p.body (body_good core all p (proc_typed core valid k p at_k) met) (λ a known. met.later.kept a known) typed.body
       (below_is_less (length p.params)) params_here x ty (omega (arith, low, typed.counted)) e
 
-  pub types_known : (scope : List ℕ) (e : ExprCore) → ExprTyped (env_of core (take k core.procs) p) scope e → TypeKnown core all (type_of e)
-  types_known scope e t =
-      let env : Env = env_of core (take k core.procs) p in
-      types_hold env scope (TypeKnown core all) (known_passes core valid all every env refl refl scope (λ x ty inside f. locals_known x ty f)) e t
+  pub result_known : (ty : ValueType) → p.result ≡ Some ty → TypeKnown core all ty
+  result_known = met_result_known core all p (proc_typed core valid k p at_k) (every.procs k p at_k)
+
+  -- in a body, or where the result may be named
+  pub types_known : (outcome : Option ValueType) → ((ty : ValueType) → outcome ≡ Some ty → TypeKnown core all ty) → (scope : List ℕ) (e : ExprCore)
+      → ExprTyped (record (env_of core (take k core.procs) p) { outcome = outcome }) scope e → TypeKnown core all (type_of e)
+  types_known outcome named scope e t =
+      let env : Env = record (env_of core (take k core.procs) p) { outcome = outcome } in
+      types_hold env scope (TypeKnown core all) (known_passes core valid all every env refl named scope (λ x ty inside f. locals_known x ty f)) e t

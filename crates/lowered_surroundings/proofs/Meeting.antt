@@ -169,7 +169,7 @@ module _ (structs : List StructType) (words : ℕ) where
       let inner : Good k (met_fields d s.fields) = (fields_grow k d s.fields made).good g in
       let here : FieldsKnown (met_fields d s.fields) k = record { struct_type = s; found = found; fields = fields_known k d s.fields made g } in
       let later : Good (suc k + length more) (met_structs (suc k) (met_fields d s.fields ++ Struct k ∷ []) more) =
-          structs_good ws w more (done ++ s ∷ []) (suc k) (met_fields d s.fields ++ Struct k ∷ []) (omega (arith, n, length-append done (s ∷ []))) p.1
-          (λ j x e. subst (λ m. slice_get structs m ≡ Some x) (let e : k + suc j ≡ suc k + j = omega arith in e) (there (suc j) x e))
-          (struct_good k (met_fields d s.fields) inner here) in
+      structs_good ws w more (done ++ s ∷ []) (suc k) (met_fields d s.fields ++ Struct k ∷ []) (omega (arith, n, length-append done (s ∷ []))) p.1
+      (λ j x e. subst (λ m. slice_get structs m ≡ Some x) (let e : k + suc j ≡ suc k + j = omega arith in e) (there (suc j) x e))
+      (struct_good k (met_fields d s.fields) inner here) in
       subst (λ m. Good m (met_structs (suc k) (met_fields d s.fields ++ Struct k ∷ []) more)) (let e : suc k + length more ≡ k + suc (length more) = omega arith in e) later

@@ -1,7 +1,7 @@
 -- The fields of a struct have different names in C, so have two structs, and no local of a procedure has the name of a temporary.
-use Rattle.std.proofs.Common.{◌≡◌, ℕ, zero, suc, ◌<◌, Bool, true, false, List, [], ◌∷◌, map, length, slice_get, get_or, Option, Some, None, option_map, refl, sym, ◌∙◌, ap, arith, ltb-false}
-use Rattle.std.specs.Prelude.{nat_lt, slice_index_or}
-use Rattle.std.proofs.lemmas.Option.{slice_get-map, slice_get_within, slice_get-get_or}
+use Rattle.std.proofs.Common.{◌≡◌, ℕ, ◌<◌, Bool, true, false, List, [], ◌∷◌, map, length, slice_get, get_or, Option, Some, None, option_map, refl, sym, ◌∙◌, ap, arith, ltb-false}
+use Rattle.std.specs.Prelude.{nat_lt}
+use Rattle.std.proofs.lemmas.Option.{get_or_from_slice_get, slice_get-map, slice_get_within, slice_get-get_or}
 use Rattle.area_types.specs.Syntax as types
 use Rattle.area_types.specs.Syntax.{Name, ValueType, StructType}
 use Rattle.area_types.specs.View.{field_of}
@@ -22,17 +22,12 @@ named_old (Some name) x first low j from e = item_is_no_local name j e
 
 -- ---- places in lists of different names
 
-at_place : {A : Type 0} (xs : List A) (i : ℕ) (d x : A) → slice_get xs i ≡ Some x → slice_index_or xs i d ≡ x
-at_place [] i d x e = let no : ⊥ = cc in absurd no
-at_place (y ∷ xs) zero d x e = cc
-at_place (y ∷ xs) (suc i) d x e = at_place xs i d x e
-
 pub same_place : (names : List Name) → AllDifferent names → (i j : ℕ) (x : Name) → slice_get names i ≡ Some x → slice_get names j ≡ Some x → i ≡ j
 same_place names different i j x e f = go (nat_lt i j) refl (nat_lt j i) refl
   where
     go : (b : Bool) → nat_lt i j ≡ b → (c : Bool) → nat_lt j i ≡ c → i ≡ j
-    go true h c g = absurd (different i j x (is_below i j h) (slice_get_within names j x f) (at_place names i x x e ∙ sym (at_place names j x x f)))
-    go false h true g = absurd (different j i x (is_below j i g) (slice_get_within names i x e) (at_place names j x x f ∙ sym (at_place names i x x e)))
+    go true h c g = absurd (different i j x (is_below i j h) (slice_get_within names j x f) (get_or_from_slice_get names i x x e ∙ sym (get_or_from_slice_get names j x x f)))
+    go false h true g = absurd (different j i x (is_below j i g) (slice_get_within names i x e) (get_or_from_slice_get names j x x f ∙ sym (get_or_from_slice_get names i x x e)))
     go false h false g = omega (arith, ltb-false i j h, ltb-false j i g)
 
 -- ---- fields

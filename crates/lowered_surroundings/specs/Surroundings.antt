@@ -1,9 +1,11 @@
--- What the C of a procedure stands among: the names that the lowering of its module gives to types, and the setting of its body.
-use Rattle.std.specs.Prelude.{ℕ, Bool, List, length, take, slice_get, None}
+-- What the C of a procedure stands among: the names that the lowering of its module gives to types, and the settings of its body and of what it ensures.
+use Rattle.std.specs.Prelude.{ℕ, Bool, false, List, length, take, slice_get, Option, None}
 use Rattle.area_types.specs.Trees.{area_in}
 use Rattle.core_tree.specs.Syntax.{ProcCore, ModuleCore}
-use Rattle.core_tree.specs.TypedItems.{env_of}
+use Rattle.core_tree.specs.TypedItems.{env_of, contract_env}
+use Rattle.core_meaning.specs.Values.{Value}
 use Rattle.c_ast.specs.declared.Target.{Target}
+use Rattle.c_ast.specs.Syntax.{Expr}
 use Rattle.c_meaning.specs.Calls.{Calls}
 use Rattle.c_meaning.specs.State.{program_of}
 use Rattle.area_objects.specs.Shapes.{Naming}
@@ -40,3 +42,7 @@ setting_for skip m t functions k p scope = record {
   outcome = None;
   first = length p.locals;
 }
+
+-- of what a procedure ensures: the result has this value, and this expression stands for it
+abbrev pub ensures_setting : Setting → (outcome : Expr) → Option Value → (first : ℕ) → Setting
+ensures_setting g outcome value first = record g { frame = record g.frame { outcome = outcome }; env = contract_env g.env false; outcome = value; first = first }

@@ -1,8 +1,10 @@
 -- A state that is scoped for an open call of a procedure is staged: what its expressions are given fits, and their indices have lengths.
-use Rattle.std.proofs.Common.{◌≡◌, ◌||◌, ℕ, Bool, true, false, List, take, slice_get, Option, Some, None, IsTrue, refl, subst}
+use Rattle.std.proofs.Common.{◌≡◌, ◌||◌, ℕ, Bool, true, false, not, List, take, slice_get, Option, Some, None, IsTrue, refl, subst}
 use Rattle.area_types.specs.Syntax as types
 use Rattle.area_types.specs.Syntax.{ValueType, Truth, Int, Ix, Bits, Ref}
 use Rattle.area_types.specs.Tables.{Table, has_index_length}
+use Rattle.area_types.specs.declared.region.Region.{Region}
+use Rattle.source_types.specs.Values.{is_reference}
 use Rattle.area_types.specs.declared.region.Region.TheVariants.{Global, Param, Own}
 use Rattle.region_check.specs.Found.{region_count}
 use Rattle.area_types.proofs.Truths.{both}
@@ -60,6 +62,14 @@ stored_made table (Ix n) m = m.lengths
 stored_made table (Bits k) m = tt
 stored_made table (Ref constant region area) m = let is = m.of_structs in let no : ⊥ = cc in absurd no
 
+-- no area holds references
+plain_stored : (table : Table) (ty : ValueType) → Made table (types.Stored ty) → IsTrue (not (is_reference ty))
+plain_stored table Truth m = refl
+plain_stored table (Int kind) m = refl
+plain_stored table (Ix n) m = refl
+plain_stored table (Bits k) m = refl
+plain_stored table (Ref constant region area) m = let is = m.of_structs in let no : ⊥ = cc in absurd no
+
 made_indexed : (table : Table) (ty : ValueType) → IsMade table ty → IsTrue (has_index_length ty)
 made_indexed table Truth m = refl
 made_indexed table (Int kind) m = refl
@@ -98,12 +108,18 @@ module _ (core : ModuleCore) (valid : ValidCore core) (k : ℕ) (p : ProcCore) (
   indices_have_lengths : (outcome : Option ValueType) → ((ty : ValueType) → outcome ≡ Some ty → IsMade core.structs ty) → (e : ExprCore) → ExprTyped (around outcome) scope e → IsTrue (has_index_length (type_of e))
   indices_have_lengths outcome named e t = made_indexed core.structs (type_of e) (types_hold (around outcome) scope (IsMade core.structs) (made_passes outcome named) e t)
 
+  cells_are_plain : (outcome : Option ValueType) → ((ty : ValueType) → outcome ≡ Some ty → IsMade core.structs ty) → (e : ExprCore) (constant : Bool) (region : Region) (held : ValueType) → ExprTyped (around outcome) scope e → type_of e ≡ Ref constant region (types.Stored held)
+      → IsTrue (not (is_reference held))
+  cells_are_plain outcome named e constant region held t is =
+      plain_stored core.structs held (subst (IsMade core.structs) is (types_hold (around outcome) scope (IsMade core.structs) (made_passes outcome named) e t))
+
 pub scoped_states_are_staged : ScopedStatesAreStaged
 scoped_states_are_staged core valid k p at_k skip t functions scope entry waiting s scoped =
     let env : Env = env_of core (take k core.procs) p in
     record {
       entry = entry;
       fits = λ e v typed gives. given_values_fit env valid scope entry s (scoped_is_known env scope entry waiting s scoped) None (no_result_is_known env entry s.areas refl) e typed v gives;
+      stored = λ e constant region held typed is. cells_are_plain core valid k p at_k scope None (λ ty none. absurd (no_outcome ty none)) e constant region held typed is;
       indexed = λ e typed. indices_have_lengths core valid k p at_k scope None (λ ty none. absurd (no_outcome ty none)) e typed;
     }
 
@@ -114,5 +130,6 @@ ensures_are_staged core valid k p at_k skip t functions scope entry waiting s sc
     record {
       entry = entry;
       fits = λ e v typed gives. given_values_fit (contract_env env false) valid scope entry s known value (results_are_known env entry s.areas value fits) e typed v gives;
+      stored = λ e constant region held typed is. cells_are_plain core valid k p at_k scope p.result (result_made core.structs p p.result (valid.procs k p at_k).result) e constant region held typed is;
       indexed = λ e typed. indices_have_lengths core valid k p at_k scope p.result (result_made core.structs p p.result (valid.procs k p at_k).result) e typed;
     }

@@ -14,7 +14,6 @@ pub mod Literals
 pub mod References
 pub mod BinaryForms
 pub mod SetForms
-pub mod AreaParts
 pub mod Objects
 pub mod Growing
 pub mod Arms

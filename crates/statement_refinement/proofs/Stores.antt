@@ -171,7 +171,7 @@ module _ (g : Setting) (set : Set g) (objects : Map) (s : State) (stage : Stage 
         given = gives;
         is = refl;
         kept = kept_apart;
-        related = related_written g objects s z k path n at.pointer.object at.pointer.area related_z at.pointer.lives done.new done.both done.others typed.in_body apart_z;
+        related = related_written g objects s z k path (Cell n) at.pointer.object at.pointer.area related_z at.pointer.lives done.new done.both done.others typed.in_body apart_z;
         apart = apart_z;
       }
 

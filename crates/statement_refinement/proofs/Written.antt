@@ -1,9 +1,8 @@
--- A state stays related when a number is written to a cell of an area: names and places stand for what they did, in areas of the same types.
+-- A state stays related when a part of an area is given another value: names and places stand for what they did, in areas of the same types.
 use Rattle.std.proofs.Common.{◌≡◌, ◌≢◌, ℕ, zero, suc, ◌≤◌, ℤ, Bool, true, false, List, [], ◌∷◌, Option, Some, None, Result, Ok, Err, refl, sym, ◌∙◌, ap, subst, eqb-true, eq-eqb}
 use Rattle.std.specs.Prelude.{if◌then◌else◌, ◌==◌, slice_get}
 use Rattle.run_records.specs.declared.Reason.TheVariants as reason
 use Rattle.type_trees.specs.Trees.{Leaf, Many, Struct, part}
-use Rattle.type_trees.specs.Values.{Cell}
 use Rattle.area_types.specs.Syntax.{ValueType}
 use Rattle.core_tree.specs.Syntax.{AreaCore}
 use Rattle.area_types.specs.Tables.{written_out}
@@ -62,21 +61,21 @@ still_live (suc k) path v (x ∷ areas) (suc j) a h = let q = still_live k path 
 
 -- ---- what is read
 
-module _ (g : Setting) (objects : Map) (s : State) (u : CState) (k : ℕ) (path : List ℕ) (n : ℤ) (o : ℕ) (a : Area) (related : Related g objects s u) (here : LiveIn objects s.areas k o a)
-    (new : CObjects) (both : BothIn g.program.target g.naming objects (put_at k path (Cell n) s.areas) new)
+module _ (g : Setting) (objects : Map) (s : State) (u : CState) (k : ℕ) (path : List ℕ) (value : Held) (o : ℕ) (a : Area) (related : Related g objects s u) (here : LiveIn objects s.areas k o a)
+    (new : CObjects) (both : BothIn g.program.target g.naming objects (put_at k path value s.areas) new)
     (others : (q : ℕ) → q ≢ o → Same (metric_of g.program.target) (memory_of g.program.target) u.objects new q) where
   abbrev p : Program
   p = g.program
 
   abbrev later : Areas
-  later = put_at k path (Cell n) s.areas
+  later = put_at k path value s.areas
 
   abbrev w : CState
   w = record u { objects = new }
 
   written_lives : lives w o ≡ true
   written_lives =
-      let q : StillLive later k a = still_live k path (Cell n) s.areas k a here.live in
+      let q : StillLive later k a = still_live k path value s.areas k a here.live in
       objects_live (metric_of p.target) (CanHold (table_of p.target)) (memory_of p.target) (lawful_in (table_of p.target)) g.naming objects later new k o q.area both (record { live = q.live; object = here.object })
 
   lives_on : (q : ℕ) → lives u q ≡ true → lives w q ≡ true
@@ -116,7 +115,7 @@ module _ (g : Setting) (objects : Map) (s : State) (u : CState) (k : ℕ) (path 
 
   abbrev pointer_later : (c : Bool) (d : Expr) (j : ℕ) (to : List ℕ) → (h : PointerIs g objects s.areas u c d j to) → eval p d w ≡ Ok (Ptr c (base_of g.naming h.content) (begins p.target g.naming h.object h.area.ty to)) → PointerIs g objects later w c d j to
   pointer_later c d j to h e =
-      let l : StillLive later j h.area = still_live k path (Cell n) s.areas j h.area h.lives.live in
+      let l : StillLive later j h.area = still_live k path value s.areas j h.area h.lives.live in
       record {
         object = h.object;
         area = l.area;
@@ -130,7 +129,7 @@ module _ (g : Setting) (objects : Map) (s : State) (u : CState) (k : ℕ) (path 
       → eval p (reference_to d) w ≡ Ok (Ptr c (base_of g.naming h.pointer.content) (begins p.target g.naming h.pointer.object h.pointer.area.ty to))
       → eval_place p d w ≡ eval_place p d u → static_place_type p w d ≡ static_place_type p u d → PlaceIs g objects later w c d j to
   place_later c d j to h points placed typed =
-      let l : StillLive later j h.pointer.area = still_live k path (Cell n) s.areas j h.pointer.area h.pointer.lives.live in
+      let l : StillLive later j h.pointer.area = still_live k path value s.areas j h.pointer.area h.pointer.lives.live in
       record {
         pointer = pointer_later c (reference_to d) j to h.pointer points;
         is = placed ∙ h.is ∙ ap (λ ty. let r : Result Lvalue Trouble = Ok (located p.target g.naming c h.pointer.object ty to h.pointer.content) in r) (sym l.type);
@@ -195,10 +194,10 @@ module _ (g : Setting) (objects : Map) (s : State) (u : CState) (k : ℕ) (path 
   own_on : (i : ℕ) (x : AreaCore) → slice_get g.frame.core.areas i ≡ Some x → (b : Area) × (b.ty ≡ written_out g.frame.core.structs x.area) × LiveIn objects later i i b
   own_on i x e =
       let q = related.own i x e in
-      let l : StillLive later i q.0 = still_live k path (Cell n) s.areas i q.0 q.2.live in
+      let l : StillLive later i q.0 = still_live k path value s.areas i q.0 q.2.live in
       (l.area, l.type ∙ q.1, record { live = l.live; object = q.2.object })
 
-  pub related_written : g.env.outcome ≡ None → CountersApart g objects s u → Related g objects (holding k path (Cell n) s) w
+  pub related_written : g.env.outcome ≡ None → CountersApart g objects s u → Related g objects (holding k path value s) w
   related_written in_body apart = record {
     both = both;
     own = own_on;

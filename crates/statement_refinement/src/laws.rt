@@ -1,3 +1,4 @@
+ghost use Rattle.statement_refinement.specs.Stores.{StoresFollow};
 ghost use Rattle.statement_refinement.specs.Tests.{AssertsFollow, ContractsFollow};
 
 /// The C of an `assert` follows it: both go on where its condition holds, and stop at its site where it does not.
@@ -8,4 +9,10 @@ pub fn asserts_follow()
 /// So do the tests of what a procedure requires or ensures, one after another.
 pub fn contracts_follow()
     ensures { ContractsFollow }
+{}
+
+/// The C of a store follows it: the steps of each side allow those of the other, both stop at the same check, and the states are related again
+/// once the number is written.
+pub fn stores_follow()
+    ensures { StoresFollow }
 {}

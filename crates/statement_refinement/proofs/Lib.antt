@@ -1,3 +1,4 @@
+pub mod Moves
 pub mod Stores
 pub mod Tests
 pub mod Written

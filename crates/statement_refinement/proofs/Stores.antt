@@ -60,7 +60,8 @@ use Rattle.value_refinement.proofs.References.{content_is}
 use Rattle.value_refinement.proofs.Running.{runs_first, takes_one}
 use Rattle.value_refinement.proofs.Standings.{related_on}
 use Rattle.value_refinement.proofs.Types.{given_holds}
-use Rattle.statement_refinement.specs.Stores.{CountersApart, KeptApart, IsStore, HasStored, StoreDone, store_statements}
+use Rattle.statement_refinement.specs.Apart.{CountersApart}
+use Rattle.statement_refinement.specs.Stores.{KeptApart, IsStore, HasStored, StoreDone, store_statements}
 use Rattle.statement_refinement.proofs.Written.{counters_kept, related_written}
 
 -- ---- the assignment

@@ -42,7 +42,7 @@ use Rattle.value_refinement.specs.Kept.{Kept}
 use Rattle.value_refinement.specs.Related.{is_constant, PointerIs, PlaceIs, NameStands, Related}
 use Rattle.value_refinement.specs.Settings.{Setting, Set}
 use Rattle.value_refinement.proofs.Keeping.{older}
-use Rattle.statement_refinement.specs.Stores.{IsApart, CountersApart}
+use Rattle.statement_refinement.specs.Apart.{IsApart, CountersApart}
 
 -- ---- areas
 

@@ -1,17 +1,17 @@
 -- A store through a reference: what is asked of it, and what it leaves on both sides.
-use Rattle.std.specs.Prelude.{◌≡◌, ◌≢◌, ℕ, ◌<◌, ◌≤◌, ℤ, false, List, Contains, length, slice_get, Option, Some, None}
+use Rattle.std.specs.Prelude.{◌≡◌, ℕ, ◌<◌, ◌≤◌, ℤ, false, List, length, Option, None}
 use Rattle.type_trees.specs.Values.{Cell}
 use Rattle.step_semantics.specs.Control.{Control, Falls, Broke, Returned}
 use Rattle.step_semantics.specs.Follows.{Follows}
 use Rattle.step_semantics.specs.Steps.{World, bind}
-use Rattle.area_types.specs.Syntax.{ValueType, Ref, Stored}
+use Rattle.area_types.specs.Syntax.{Ref, Stored}
 use Rattle.area_types.specs.declared.region.Region.{Region}
 use Rattle.core_tree.specs.Checks.{expr_checks}
 use Rattle.core_tree.specs.Syntax.{ExprCore, type_of}
 use Rattle.core_tree.specs.TypedExpressions.{ExprTyped}
 use Rattle.core_meaning.specs.Expressions.{eval}
 use Rattle.core_meaning.specs.Gives.{Gives}
-use Rattle.core_meaning.specs.State.{State, value_of, holding}
+use Rattle.core_meaning.specs.State.{State, holding}
 use Rattle.core_meaning.specs.Statements.{Flow, store}
 use Rattle.core_meaning.specs.Values as source
 use Rattle.core_meaning.specs.Values.{Value}
@@ -20,32 +20,16 @@ use Rattle.c_ast.specs.Names.{named}
 use Rattle.c_ast.specs.Scalars.{metric_of}
 use Rattle.c_ast.specs.Syntax.{Name, Stmt}
 use Rattle.c_meaning.specs.Memory.{memory_of}
-use Rattle.c_meaning.specs.State.{Program, CState, Slot, Holding, Naming}
+use Rattle.c_meaning.specs.State.{Program, CState}
 use Rattle.c_meaning.specs.Values.{CValue}
 use Rattle.area_objects.specs.Both.{Map}
 use Rattle.lower_values.specs.Expressions as lowered
 use Rattle.lower_values.specs.Expressions.{place}
-use Rattle.lower_values.specs.Frames.{name_of}
 use Rattle.lower_statements.specs.Statements.{stored}
 use Rattle.value_refinement.specs.Laws.{Numbered, Stage, running}
 use Rattle.value_refinement.specs.Related.{Related}
 use Rattle.value_refinement.specs.Settings.{Setting, Set, IsOld}
-
--- ---- objects of no area
-
-abbrev pub OfNoArea : Map → ℕ → Type 0
-OfNoArea objects o = (k : ℕ) → slice_get objects k ≢ Some o
-
--- a name of the function that holds its value, or names an object of no area
-abbrev pub IsApart : Map → Option Slot → Type 0
-IsApart objects None = ⊥
-IsApart objects (Some (Holding v)) = Unit {0}
-IsApart objects (Some (Naming o base)) = OfNoArea objects o
-
--- the name of each number in scope is so: a write to an area changes no counter of a loop
-abbrev pub CountersApart : Setting → Map → State → CState → Type 0
-CountersApart g objects s u =
-    (x : ℕ) (ty : ValueType) (n : ℤ) → Contains g.scope x → slice_get g.env.locals x ≡ Some ty → value_of x s ≡ Some (source.Num n) → IsApart objects (named u.frames.own (name_of g.frame x))
+use Rattle.statement_refinement.specs.Apart.{OfNoArea, CountersApart}
 
 -- what a write to an area keeps: every name but those of temporaries from number k on, and every object of no area that there was
 pub record KeptApart (p : Program) (objects : Map) (k : ℕ) (t u : CState) : Type 0 where

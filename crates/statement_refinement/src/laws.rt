@@ -1,3 +1,4 @@
+ghost use Rattle.statement_refinement.specs.Moves.{StatesMove};
 ghost use Rattle.statement_refinement.specs.Stores.{StoresFollow};
 ghost use Rattle.statement_refinement.specs.Tests.{AssertsFollow, ContractsFollow};
 
@@ -15,4 +16,9 @@ pub fn contracts_follow()
 /// once the number is written.
 pub fn stores_follow()
     ensures { StoresFollow }
+{}
+
+/// Related states stay related, for the names that were in scope, where both sides have moved on alike.
+pub fn states_move()
+    ensures { StatesMove }
 {}

@@ -1,3 +1,4 @@
+pub mod Movements
 pub mod Moves
 pub mod Stores
 pub mod Tests

@@ -166,8 +166,8 @@ module _ (g : Setting) (next : ℕ) (objects : Map) (s : State) (t : CState) (mo
     pointee_on c k path h =
         let q : PointerIs g objects s.areas t c (Read (Var x)) k path = h.pointer in
         let again : eval p (Read (Var x)) u ≡ Ok (Ptr c (base_of g.naming q.content) (begins p.target g.naming q.object q.area.ty path)) =
-            ap (λ l. on_ok l (read p.target u)) place_same
-            ∙ pointer_read_on (eval_place p (Var x) t) c (base_of g.naming q.content) (begins p.target g.naming q.object q.area.ty path) (still_lives k q.object q.area q.lives) q.is in
+        ap (λ l. on_ok l (read p.target u)) place_same
+        ∙ pointer_read_on (eval_place p (Var x) t) c (base_of g.naming q.content) (begins p.target g.naming q.object q.area.ty path) (still_lives k q.object q.area q.lives) q.is in
         let same : eval p (Read (Var x)) u ≡ eval p (Read (Var x)) t = again ∙ sym q.is in
         record {
           pointer = pointer_on c (Read (Var x)) k path q same;

@@ -204,7 +204,7 @@ module _ (g : Setting) (set : Set g) (objects : Map) (s : State) (stage : Stage 
         on_value v u gives comes m z =
             padded g s Post (bind (eval g.frame.core g.outcome target) (λ r. store g.frame.core r v)) (arrived.before ++ last) 0 0 (spare piece) u z piece.owed
             (λ i. place_all g set objects s stage target typed.target_typed small_target refers Flow Post (λ r. store g.frame.core r v) last 0 0 piece.next (omega (arith, le, comes.grows)) u (related_on g set objects s from le t u comes.kept related)
-                (record { by = λ k path z2 leads arrives j w2. on_target v u gives comes k path z2 leads arrives j w2 }) i z)
+            (record { by = λ k path z2 leads arrives j w2. on_target v u gives comes k path z2 leads arrives j w2 }) i z)
             m
 
 pub store_follows : (g : Setting) → (set : Set g) → (objects : Map) (s : State) → (stage : Stage g s) → (target value : ExprCore) → (typed : IsStore g target value) → Numbered (expr_checks target) → Numbered (expr_checks value)

@@ -43,21 +43,17 @@ use Rattle.value_refinement.specs.Related.{is_constant, PointerIs, PlaceIs, Name
 use Rattle.value_refinement.specs.Settings.{Setting, Set}
 use Rattle.value_refinement.proofs.Keeping.{older}
 use Rattle.statement_refinement.specs.Apart.{IsApart, CountersApart}
+use Rattle.statement_refinement.specs.Moves.{StillLive}
 
 -- ---- areas
 
 -- an area that is live still is, with its type
-pub record StillLive (later : Areas) (j : ℕ) (a : Area) : Type 0 where
-  pub area : Area
-  pub type : area.ty ≡ a.ty
-  pub live : slice_get later j ≡ Some (Live area)
-
 pub still_live : (k : ℕ) (path : List ℕ) (v : Held) (areas : Areas) (j : ℕ) (a : Area) → slice_get areas j ≡ Some (Live a) → StillLive (put_at k path v areas) j a
 still_live k path v [] j a h = let no : ⊥ = cc in absurd no
-still_live zero path v (x ∷ areas) zero a h = let e : x ≡ Live a = cc in record { area = with_part path v a; type = refl; live = ap (λ y. Some (put_part path v y)) e }
-still_live zero path v (x ∷ areas) (suc j) a h = record { area = a; type = refl; live = h }
-still_live (suc k) path v (x ∷ areas) zero a h = record { area = a; type = refl; live = h }
-still_live (suc k) path v (x ∷ areas) (suc j) a h = let q = still_live k path v areas j a h in record { area = q.area; type = q.type; live = q.live }
+still_live zero path v (x ∷ areas) zero a h = let e : x ≡ Live a = cc in record { area = with_part path v a; type = refl; access = refl; live = ap (λ y. Some (put_part path v y)) e }
+still_live zero path v (x ∷ areas) (suc j) a h = record { area = a; type = refl; access = refl; live = h }
+still_live (suc k) path v (x ∷ areas) zero a h = record { area = a; type = refl; access = refl; live = h }
+still_live (suc k) path v (x ∷ areas) (suc j) a h = let q = still_live k path v areas j a h in record { area = q.area; type = q.type; access = q.access; live = q.live }
 
 -- ---- what is read
 

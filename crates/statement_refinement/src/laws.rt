@@ -1,4 +1,4 @@
-ghost use Rattle.statement_refinement.specs.Moves.{StatesMove};
+ghost use Rattle.statement_refinement.specs.Moves.{LetsMove, MovesJoin, StatesMove, StoresMove};
 ghost use Rattle.statement_refinement.specs.Stores.{StoresFollow};
 ghost use Rattle.statement_refinement.specs.Tests.{AssertsFollow, ContractsFollow};
 
@@ -21,4 +21,19 @@ pub fn stores_follow()
 /// Related states stay related, for the names that were in scope, where both sides have moved on alike.
 pub fn states_move()
     ensures { StatesMove }
+{}
+
+/// What moves on twice moves on.
+pub fn moves_join()
+    ensures { MovesJoin }
+{}
+
+/// A store moves both sides.
+pub fn stores_move()
+    ensures { StoresMove }
+{}
+
+/// A `let` moves both sides, up to its own name.
+pub fn lets_move()
+    ensures { LetsMove }
 {}

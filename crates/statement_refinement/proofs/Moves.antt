@@ -9,6 +9,7 @@ use Rattle.area_types.specs.Syntax.{ValueType}
 use Rattle.area_types.specs.Tables.{written_out}
 use Rattle.area_types.specs.Trees.{Written}
 use Rattle.core_tree.specs.Syntax.{AreaCore}
+use Rattle.c_memory.specs.Abstract.{Same}
 use Rattle.c_memory.specs.Access.{Fault, Dead}
 use Rattle.c_ast.specs.declared.CBase.{CBase}
 use Rattle.c_ast.specs.declared.CKind.TheVariants.{Scalar}
@@ -27,11 +28,11 @@ use Rattle.c_meaning.specs.Scopes.{slot_entity, local_entity, file_entity}
 use Rattle.c_meaning.specs.State.{Program, CState, Slot, Holding, Naming, lives}
 use Rattle.c_meaning.specs.Values as target
 use Rattle.c_meaning.specs.Values.{Trouble, Undefined, Stuck, CValue, Ptr, on_ok}
-use Rattle.core_meaning.specs.Areas.{Area}
+use Rattle.core_meaning.specs.Areas.{Area, Live}
 use Rattle.core_meaning.specs.State.{State, value_of}
 use Rattle.core_meaning.specs.Values as source
 use Rattle.core_meaning.specs.Values.{Value}
-use Rattle.area_objects.specs.Both.{Map, LiveIn}
+use Rattle.area_objects.specs.Both.{Map, Extends, LiveIn}
 use Rattle.area_objects.specs.Holds.{CanHold}
 use Rattle.area_objects.specs.Located.{begins, located}
 use Rattle.area_objects.specs.PlaceLaws.{BothIn}
@@ -43,13 +44,23 @@ use Rattle.lower_types.specs.Types.{scalar_for}
 use Rattle.lower_values.specs.Expressions.{name_or_empty, area_place, local_place, local_value}
 use Rattle.lower_values.specs.Frames.{is_object, name_of}
 use Rattle.value_refinement.specs.Related.{PointerIs, PlaceIs, NameStands, Related}
-use Rattle.value_refinement.specs.Settings.{Setting, IsOld}
+use Rattle.value_refinement.specs.Settings.{Setting}
 use Rattle.form_answers.specs.Standing.{HasScalar}
 use Rattle.value_refinement.proofs.Standings.{item_is_old}
 use Rattle.statement_refinement.specs.Apart.{OfNoArea, IsApart, CountersApart}
 use Rattle.statement_refinement.specs.Moves.{StillLive, Moved, ScopeBefore, StatesMove}
 
-module _ (g : Setting) (next : ℕ) (objects : Map) (s : State) (t : CState) (more : Map) (later : State) (u : CState) (moved : Moved g.program next objects s t more later u)
+-- what is still there, of the names in scope
+pub record StillThere (g : Setting) (objects : Map) (s : State) (t : CState) (more : Map) (later : State) (u : CState) : Type 0 where
+  pub extends : Extends objects more
+  pub live : (k : ℕ) (a : Area) → slice_get s.areas k ≡ Some (Live a) → StillLive later.areas k a
+  pub same : (o : ℕ) → o < length t.objects → OfNoArea objects o → Same (metric_of g.program.target) (memory_of g.program.target) t.objects u.objects o
+  pub apart : (o : ℕ) → o < length t.objects → OfNoArea objects o → OfNoArea more o
+  pub items : (x : Name) → named u.frames.own (item_name x) ≡ named t.frames.own (item_name x)
+  pub names : (x : ℕ) (ty : ValueType) → Contains g.scope x → slice_get g.env.locals x ≡ Some ty → named u.frames.own (name_of g.frame x) ≡ named t.frames.own (name_of g.frame x)
+  pub values : (x : ℕ) (ty : ValueType) → Contains g.scope x → slice_get g.env.locals x ≡ Some ty → value_of x later ≡ value_of x s
+
+module _ (g : Setting) (objects : Map) (s : State) (t : CState) (more : Map) (later : State) (u : CState) (moved : StillThere g objects s t more later u)
     (both : BothIn g.program.target g.naming more later.areas u.objects) where
   abbrev p : Program
   p = g.program
@@ -126,12 +137,12 @@ module _ (g : Setting) (next : ℕ) (objects : Map) (s : State) (t : CState) (mo
 
   -- ---- old names
 
-  module _ (x : Name) (old : IsOld next x) where
+  module _ (x : Name) (named_same : named u.frames.own x ≡ named t.frames.own x) where
     abbrev outer : Result Lvalue Trouble
     outer = file_place p.unit.structs 0 p.unit.objects x
 
     place_same : eval_place p (Var x) u ≡ eval_place p (Var x) t
-    place_same = ap (λ found. or_outer p.unit.structs found outer) (moved.names x old)
+    place_same = ap (λ found. or_outer p.unit.structs found outer) named_same
 
     abbrev entity : Option Slot → Option Entity → Option Entity
     entity (Some slot) rest = Some (slot_entity slot)
@@ -148,7 +159,7 @@ module _ (g : Setting) (next : ℕ) (objects : Map) (s : State) (t : CState) (mo
     place_type_same : static_place_type p u (Var x) ≡ static_place_type p t (Var x)
     place_type_same =
         ap (option_map (of_entity p.unit.structs))
-        (entity_of u.frames.own (map file_entity p.unit.objects) ∙ ap (λ found. entity found (named (map file_entity p.unit.objects) x)) (moved.names x old) ∙ sym (entity_of t.frames.own (map file_entity p.unit.objects)))
+        (entity_of u.frames.own (map file_entity p.unit.objects) ∙ ap (λ found. entity found (named (map file_entity p.unit.objects) x)) named_same ∙ sym (entity_of t.frames.own (map file_entity p.unit.objects)))
 
     type_same : static_type p u (Read (Var x)) ≡ static_type p t (Read (Var x))
     type_same = ap (option_and_then of_read) place_type_same
@@ -221,7 +232,7 @@ module _ (g : Setting) (next : ℕ) (objects : Map) (s : State) (t : CState) (mo
 
     apart_on : (b : Bool) (kind : CScalar) (n : ℤ) → IsApart objects (named t.frames.own x) → HasScalar p t kind (value_by b) n → IsApart more (named u.frames.own x)
     apart_on true kind n apart h = absurd (no_number (eval_place p (Var x) t) kind n h.gives)
-    apart_on false kind n apart h = subst (IsApart more) (sym (moved.names x old)) (still_apart (named t.frames.own x) kind n apart h.gives)
+    apart_on false kind n apart h = subst (IsApart more) (sym named_same) (still_apart (named t.frames.own x) kind n apart h.gives)
 
   -- ---- states
 
@@ -230,7 +241,7 @@ module _ (g : Setting) (next : ℕ) (objects : Map) (s : State) (t : CState) (mo
     global_on n a e =
         let is : area_place g.frame n ≡ Var (item_name a.name) = ap (λ found. Var (name_or_empty found)) e in
         subst (λ l. PlaceIs g more later.areas u a.constant l n []) (sym is)
-        (place_on (item_name a.name) (item_is_old next a.name) a.constant n [] (subst (λ l. PlaceIs g objects s.areas t a.constant l n []) is (related.globals n a e)))
+        (place_on (item_name a.name) (moved.items a.name) a.constant n [] (subst (λ l. PlaceIs g objects s.areas t a.constant l n []) is (related.globals n a e)))
 
     own_on : (k : ℕ) (x : AreaCore) → slice_get g.frame.core.areas k ≡ Some x → (a : Area) × (a.ty ≡ written_out g.frame.core.structs x.area) × LiveIn more later.areas k k a
     own_on k x e =
@@ -238,15 +249,14 @@ module _ (g : Setting) (next : ℕ) (objects : Map) (s : State) (t : CState) (mo
         let l : StillLive later.areas k q.0 = moved.live k q.0 q.2.live in
         (l.area, l.type ∙ q.1, record { live = l.live; object = moved.extends k k q.2.object })
 
-    module _ (no_outcome : g.env.outcome ≡ None) (before : ScopeBefore g next) (apart : CountersApart g objects s t) where
+    module _ (no_outcome : g.env.outcome ≡ None) (apart : CountersApart g objects s t) where
       local_on : (x : ℕ) (ty : ValueType) (v : Value) → Contains g.scope x → slice_get g.env.locals x ≡ Some ty → value_of x later ≡ Some v → NameStands g more later.areas u ty (local_value g.frame x) (local_place g.frame x) v
       local_on x ty v here type has =
-          let b : (x < next) × IsOld next (name_of g.frame x) = before x ty here type in
-          let had : value_of x s ≡ Some v = sym (moved.values x b.0) ∙ has in
-          name_on (name_of g.frame x) b.1 (is_object g.frame x) ty v (λ n e. apart x ty n here type (had ∙ ap Some e)) (related.locals x ty v here type had)
+          let had : value_of x s ≡ Some v = sym (moved.values x ty here type) ∙ has in
+          name_on (name_of g.frame x) (moved.names x ty here type) (is_object g.frame x) ty v (λ n e. apart x ty n here type (had ∙ ap Some e)) (related.locals x ty v here type had)
 
-      pub related_moved : Related g more later u
-      related_moved = record {
+      pub related_still : Related g more later u
+      related_still = record {
         both = both;
         own = own_on;
         globals = global_on;
@@ -254,12 +264,24 @@ module _ (g : Setting) (next : ℕ) (objects : Map) (s : State) (t : CState) (mo
         result = λ ty v type has. (let no : ⊥ = cc in absurd no);
       }
 
-      pub apart_moved : CountersApart g more later u
-      apart_moved x ty n here type has =
-          let b : (x < next) × IsOld next (name_of g.frame x) = before x ty here type in
-          let had : value_of x s ≡ Some (source.Num n) = sym (moved.values x b.0) ∙ has in
-          apart_on (name_of g.frame x) b.1 (is_object g.frame x) (scalar_for g.frame.table ty) n (apart x ty n here type had) (related.locals x ty (source.Num n) here type had)
+      pub apart_still : CountersApart g more later u
+      apart_still x ty n here type has =
+          let had : value_of x s ≡ Some (source.Num n) = sym (moved.values x ty here type) ∙ has in
+          apart_on (name_of g.frame x) (moved.names x ty here type) (is_object g.frame x) (scalar_for g.frame.table ty) n (apart x ty n here type had) (related.locals x ty (source.Num n) here type had)
+
+-- what has moved is still there for a scope that stands before
+still_there : (g : Setting) (next : ℕ) → ScopeBefore g next → (objects : Map) (s : State) (t : CState) (more : Map) (later : State) (u : CState) → Moved g.program next objects s t more later u → StillThere g objects s t more later u
+still_there g next before objects s t more later u moved = record {
+  extends = moved.extends;
+  live = moved.live;
+  same = moved.same;
+  apart = moved.apart;
+  items = λ x. moved.names (item_name x) (item_is_old next x);
+  names = λ x ty here type. moved.names (name_of g.frame x) (before x ty here type).1;
+  values = λ x ty here type. moved.values x (before x ty here type).0;
+}
 
 pub states_move_on : StatesMove
 states_move_on g no_outcome next before objects s t related apart more later u moved both =
-    (related_moved g next objects s t more later u moved both related no_outcome before apart, apart_moved g next objects s t more later u moved both related no_outcome before apart)
+    let there : StillThere g objects s t more later u = still_there g next before objects s t more later u moved in
+    (related_still g objects s t more later u there both related no_outcome apart, apart_still g objects s t more later u there both related no_outcome apart)

@@ -1,0 +1,37 @@
+-- The laws of the statements of a body, form by form, and of all of them.
+use Rattle.std.specs.Prelude.{ℕ, Option}
+use Rattle.area_types.specs.Syntax.{Area}
+use Rattle.core_tree.specs.Environments.{Point, within_loop}
+use Rattle.core_tree.specs.Syntax.{ExprCore, InitCore, CallCore, StmtCore, LetCall, Alloc, Copy, Call, Map, Upto, Downto, Return, StmtsCore}
+use Rattle.body_refinement.specs.Bodies.{Lowered}
+use Rattle.body_refinement.specs.Statements.{StmtFollows, StmtsFollow}
+
+abbrev pub AllocsFollow : Type 0
+AllocsFollow = (d : Lowered) (at : Point) (number : ℕ) (area : Area) (init : Option InitCore) → StmtFollows d at (Alloc number area init)
+
+abbrev pub CopiesFollow : Type 0
+CopiesFollow = (d : Lowered) (at : Point) (target source : ExprCore) → StmtFollows d at (Copy target source)
+
+abbrev pub ReturnsFollow : Type 0
+ReturnsFollow = (d : Lowered) (at : Point) (value : Option ExprCore) → StmtFollows d at (Return value)
+
+-- ---- loops that count, where their bodies follow
+
+abbrev pub MapsFollow : Type 0
+MapsFollow = (d : Lowered) (at : Point) (number length : ℕ) (body : StmtsCore) → StmtsFollow d (within_loop number at) body → StmtFollows d at (Map number length body)
+
+abbrev pub UptosFollow : Type 0
+UptosFollow = (d : Lowered) (at : Point) (number length : ℕ) (bound : ExprCore) (body : StmtsCore) → StmtsFollow d (within_loop number at) body → StmtFollows d at (Upto number length bound body)
+
+abbrev pub DowntosFollow : Type 0
+DowntosFollow = (d : Lowered) (at : Point) (number length : ℕ) (bound : ExprCore) (body : StmtsCore) → StmtsFollow d (within_loop number at) body → StmtFollows d at (Downto number length bound body)
+
+-- ---- all of them
+
+-- what is asked of calls
+pub record CallsFollow (d : Lowered) : Type 0 where
+  pub done : (at : Point) (c : CallCore) → StmtFollows d at (Call c)
+  pub named : (at : Point) (number : ℕ) (c : CallCore) → StmtFollows d at (LetCall number c)
+
+abbrev pub StatementsFollow : Type 0
+StatementsFollow = (d : Lowered) → CallsFollow d → (at : Point) (ss : StmtsCore) → StmtsFollow d at ss

@@ -1,0 +1,5 @@
+pub mod Bodies
+pub mod Kinds
+pub mod Laws
+pub mod Results
+pub mod Statements

@@ -1,0 +1,7 @@
+ghost use Rattle.body_refinement.specs.Laws.{StatementsFollow};
+
+/// Where calls follow, so does the C of all statements: the steps of each side allow those of the other, both stop at the same check, and
+/// what they leave is related again.
+pub fn statements_follow()
+    ensures { StatementsFollow }
+{}

@@ -68,6 +68,7 @@ StmtsDone d entry next objects s t = Same (CameTo d next objects s t) (CameBack 
 
 -- what is so before statements at a place of the body, on both sides
 pub record Before (d : Lowered) (at : Point) (entry : Entry) (waiting : List Activation) (objects : Map) (s : State) (t : CState) : Type 0 where
+  pub room : at.next ≤ length d.proc.locals
   pub scoped : Scoped d.core (inside d.proc at.scope entry) waiting s
   pub related : Related (within d at.scope) objects s t
   pub apart : CountersApart (within d at.scope) objects s t

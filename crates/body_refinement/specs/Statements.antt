@@ -1,6 +1,6 @@
 -- What the statements of a procedure's body take and leave on both sides. From related states C follows the source with no credit before or
 -- after; where both fall through or break off, they have moved on alike; and where they return, they return the same.
-use Rattle.std.specs.Prelude.{ℕ, ◌≤◌, length, Option}
+use Rattle.std.specs.Prelude.{ℕ, ◌≤◌, List, length, Option}
 use Rattle.step_semantics.specs.Alike.{Same}
 use Rattle.step_semantics.specs.Control.{Control, Falls, Broke, Returned}
 use Rattle.step_semantics.specs.Follows.{Follows}

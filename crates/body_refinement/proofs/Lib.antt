@@ -1,1 +1,3 @@
+pub mod Choosing
 pub mod Coming
+pub mod Places

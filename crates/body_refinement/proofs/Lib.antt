@@ -1,3 +1,7 @@
+pub mod Blocks
 pub mod Choosing
 pub mod Coming
+pub mod Growing
 pub mod Places
+pub mod Simple
+pub mod Statements

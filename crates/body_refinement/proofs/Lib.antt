@@ -1,8 +1,10 @@
 pub mod Blocks
 pub mod Choosing
 pub mod Coming
+pub mod Contracts
 pub mod Giving
 pub mod Growing
 pub mod Places
+pub mod Returns
 pub mod Simple
 pub mod Statements

@@ -44,7 +44,7 @@ use Rattle.c_meaning.specs.Memory.{memory_of}
 use Rattle.c_meaning.specs.Places.{Lvalue, Located, or_outer, file_place, pointee}
 use Rattle.c_meaning.specs.Places as places
 use Rattle.c_meaning.specs.Scopes.{value_in}
-use Rattle.c_meaning.specs.State.{CState, Slot, Holding, lives, declare}
+use Rattle.c_meaning.specs.State.{Program, CState, Slot, Holding, lives, declare}
 use Rattle.c_meaning.specs.Values as values
 use Rattle.c_meaning.specs.Values.{Trouble, Undefined, Stuck, CValue, Num, Ptr, on_ok, as_assigned}
 use Rattle.c_meaning.proofs.Names.{name_type_is}
@@ -123,6 +123,12 @@ contains_cases : (y z : ℕ) (xs : List ℕ) → Contains (y ∷ xs) z → (y �
 contains_cases y z xs (zero, lt, e) = inl e
 contains_cases y z xs (suc k, lt, e) = inr (k, omega arith, e)
 
+-- a pointer that a name holds is read while its object lives
+pub pointer_reads : (p : Program) (u : CState) (x : Name) (constant : Bool) (b : CBase) (to : values.Address) → named u.frames.own x ≡ Some (Holding (Ptr constant b to)) → lives u to.object ≡ true → c.eval p (Read (Var x)) u ≡ Ok (Ptr constant b to)
+pointer_reads p u x constant b to has live =
+    ap (λ found. on_ok (or_outer p.unit.structs found (file_place p.unit.structs 0 p.unit.objects x)) (places.read p.target u)) has
+    ∙ ap (λ l. let r : Result CValue Trouble = if l then Ok (Ptr constant b to) else Err (Undefined reason.Dead) in r) live
+
 -- a name that holds a pointer to a part leads there
 pub pointer_stands : (g : Setting) (objects : Map) (s : State) (u : CState) → Related g objects s u → (x : ℕ) (constant : Bool) (k object : ℕ) (area : Area) (path : List ℕ) (content : Written) → LiveIn objects s.areas k object area → part area.ty path ≡ Some content
     → IsType g.naming g.program.unit.structs (base_of g.naming content) content
@@ -133,9 +139,7 @@ pointer_stands g objects s u related x constant k object area path content live 
     let u2 : CState = declare (local_name x) held u in
     let has : named u2.frames.own (local_name x) ≡ Some (Holding held) = named_here (local_name x) (Holding held) u.frames.own in
     let lives : lives u object ≡ true = objects_live (metric_of g.program.target) (CanHold (table_of g.program.target)) (memory_of g.program.target) (lawful_in (table_of g.program.target)) g.naming objects s.areas u.objects k object area related.both live in
-    let read : c.eval g.program (Read (Var (local_name x))) u2 ≡ Ok held =
-    ap (λ found. on_ok (or_outer g.program.unit.structs found (file_place g.program.unit.structs 0 g.program.unit.objects (local_name x))) (places.read g.program.target u2)) has
-    ∙ ap (λ l. let r : Result CValue Trouble = if l then Ok held else Err (Undefined reason.Dead) in r) lives in
+    let read : c.eval g.program (Read (Var (local_name x))) u2 ≡ Ok held = pointer_reads g.program u2 (local_name x) constant (base_of g.naming content) to has lives in
     record {
       pointer = record { object = object; area = area; lives = live; content = content; leads = leads; is = read };
       is = ap (λ v. on_ok v (pointee g.program.unit.structs)) read ∙ ap (λ a. let r : Result Lvalue Trouble = Ok (Located constant to a) in r) tree_is;

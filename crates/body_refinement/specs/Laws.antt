@@ -1,9 +1,12 @@
 -- The laws of the statements of a body, form by form, and of all of them.
-use Rattle.std.specs.Prelude.{ℕ, Option}
+use Rattle.std.specs.Prelude.{◌≡◌, ℕ, slice_get, Option, Some}
 use Rattle.area_types.specs.Syntax.{Area}
 use Rattle.core_tree.specs.Environments.{Point, within_loop}
-use Rattle.core_tree.specs.Syntax.{ExprCore, InitCore, CallCore, StmtCore, LetCall, Alloc, Copy, Call, Map, Upto, Downto, Return, StmtsCore}
+use Rattle.core_tree.specs.Syntax.{ModuleCore, ProcCore, ExprCore, InitCore, CallCore, StmtCore, LetCall, Alloc, Copy, Call, Map, Upto, Downto, Return, StmtsCore}
+use Rattle.core_tree.specs.Valid.{ValidCore}
+use Rattle.lower_values.specs.Frames.{allocated}
 use Rattle.body_refinement.specs.Bodies.{Lowered}
+use Rattle.body_refinement.specs.Kinds.{AllKindsAre}
 use Rattle.body_refinement.specs.Statements.{StmtFollows, StmtsFollow}
 
 abbrev pub AllocsFollow : Type 0
@@ -25,6 +28,12 @@ UptosFollow = (d : Lowered) (at : Point) (number length : ℕ) (bound : ExprCore
 
 abbrev pub DowntosFollow : Type 0
 DowntosFollow = (d : Lowered) (at : Point) (number length : ℕ) (bound : ExprCore) (body : StmtsCore) → StmtsFollow d (within_loop number at) body → StmtFollows d at (Downto number length bound body)
+
+-- ---- what is so of each body of a valid core
+
+-- its declarations are objects or values as the frame has it
+abbrev pub KindsAreKnown : Type 0
+KindsAreKnown = (core : ModuleCore) → ValidCore core → (k : ℕ) (p : ProcCore) → slice_get core.procs k ≡ Some p → AllKindsAre (allocated p.body) p.body
 
 -- ---- all of them
 

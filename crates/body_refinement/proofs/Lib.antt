@@ -1,3 +1,5 @@
+pub mod Braces
 pub mod Choosing
 pub mod Coming
 pub mod Places
+pub mod Zeros

@@ -3,7 +3,7 @@ use Rattle.std.proofs.Common.{◌≡◌, ℕ, zero, suc, ◌*◌, ℤ, pos, List
 use Rattle.std.specs.Prelude.{if◌then◌else◌, take, drop, get_or}
 use Rattle.type_trees.specs.Trees.{Leaf, Many, Struct, End, Field, repeated, count}
 use Rattle.type_trees.specs.Values as tree
-use Rattle.type_trees.specs.Values.{Cell, Parts, cells, cells_row, EachOf, FitsRow}
+use Rattle.type_trees.specs.Values.{cells, cells_row, EachOf, FitsRow}
 use Rattle.area_types.specs.Syntax.{ValueType}
 use Rattle.area_types.specs.Trees.{Written, WrittenRow}
 use Rattle.core_meaning.specs.Areas as source
@@ -83,7 +83,7 @@ module _ (p : Program) (w : CState) (g : Naming) where
       (more_give p w a ts (one vs) NoInits (cells (zeros nought a)) (cells_row (zero_parts ts)) (h vs e) (none_give p w ts))
 
   mutual
-    filled_gives : (ty : Written) (vs : List ℤ) → vs ≡ [] → InitGives p w (shape g ty) (filled ty vs) (cells (zeros nought (shape g ty)))
+    pub filled_gives : (ty : Written) (vs : List ℤ) → vs ≡ [] → InitGives p w (shape g ty) (filled ty vs) (cells (zeros nought (shape g ty)))
     filled_gives (Leaf s) vs e = subst (λ l. InitGives p w (Leaf (g.scalar s)) (filled (Leaf s) l) (pos 0 ∷ [])) (sym e) (zero_gives p w (g.scalar s))
     filled_gives (Many n a) vs e =
         let ts : List CTree = repeated n (shape g a ∷ []) in

@@ -1,3 +1,5 @@
+pub mod Allocated
+pub mod Allocs
 pub mod Braces
 pub mod Choosing
 pub mod Coming

@@ -1,10 +1,16 @@
+pub mod Allocated
+pub mod Allocs
 pub mod Blocks
+pub mod Braces
 pub mod Choosing
 pub mod Coming
 pub mod Contracts
 pub mod Giving
 pub mod Growing
+pub mod InitTypes
+pub mod Initializers
 pub mod Places
 pub mod Returns
 pub mod Simple
 pub mod Statements
+pub mod Zeros

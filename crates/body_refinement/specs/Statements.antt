@@ -1,6 +1,6 @@
 -- What the statements of a procedure's body take and leave on both sides. From related states C follows the source with no credit before or
 -- after; where both fall through or break off, they have moved on alike; and where they return, they return the same.
-use Rattle.std.specs.Prelude.{ℕ, ◌≤◌, length, Option}
+use Rattle.std.specs.Prelude.{ℕ, ◌≤◌, List, length, Option}
 use Rattle.step_semantics.specs.Alike.{Same}
 use Rattle.step_semantics.specs.Control.{Control, Falls, Broke, Returned}
 use Rattle.step_semantics.specs.Follows.{Follows}
@@ -68,6 +68,7 @@ StmtsDone d entry next objects s t = Same (CameTo d next objects s t) (CameBack 
 
 -- what is so before statements at a place of the body, on both sides
 pub record Before (d : Lowered) (at : Point) (entry : Entry) (waiting : List Activation) (objects : Map) (s : State) (t : CState) : Type 0 where
+  pub room : at.next ≤ length d.proc.locals
   pub scoped : Scoped d.core (inside d.proc at.scope entry) waiting s
   pub related : Related (within d at.scope) objects s t
   pub apart : CountersApart (within d at.scope) objects s t

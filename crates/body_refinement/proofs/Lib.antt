@@ -1,0 +1,5 @@
+pub mod Coming
+pub mod AreaParts
+pub mod Aside
+pub mod CopyCounters
+pub mod CopyParts

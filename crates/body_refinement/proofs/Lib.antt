@@ -3,3 +3,5 @@ pub mod AreaParts
 pub mod Aside
 pub mod CopyCounters
 pub mod CopyParts
+pub mod CopyLoops
+pub mod CopyAreas

@@ -1,7 +1,11 @@
-pub mod Coming
 pub mod AreaParts
 pub mod Aside
-pub mod CopyCounters
-pub mod CopyParts
-pub mod CopyLoops
+pub mod Choosing
+pub mod Coming
 pub mod CopyAreas
+pub mod CopyCounters
+pub mod CopyLoops
+pub mod CopyParts
+pub mod FixedPlaces
+pub mod Copies
+pub mod Places

@@ -2,20 +2,20 @@
 use Rattle.std.specs.Prelude.{◌≡◌, ℕ, suc, ◌<◌, List, [], ◌∷◌, length, take, slice_get, Contains, Some}
 use Rattle.run_records.specs.declared.Script.{Script}
 use Rattle.run_records.specs.Scripts.{Fits}
-use Rattle.step_semantics.specs.Steps.{World}
+use Rattle.step_semantics.specs.Steps.{World, block}
 use Rattle.step_semantics.specs.Control.{Falls, Broke, Returned}
 use Rattle.step_semantics.specs.Safe.{Safe, NeverUndefined}
 use Rattle.core_tree.specs.Environments.{Point, after}
 use Rattle.core_tree.specs.Exports.{exports_of}
-use Rattle.core_tree.specs.Syntax.{StmtCore, ProcCore, ModuleCore}
+use Rattle.core_tree.specs.Syntax.{StmtCore, StmtsCore, ProcCore, ModuleCore}
 use Rattle.core_tree.specs.TypedItems.{below, env_of}
-use Rattle.core_tree.specs.TypedStatements.{StmtTyped}
+use Rattle.core_tree.specs.TypedStatements.{StmtTyped, StmtsTyped}
 use Rattle.core_tree.specs.Valid.{ValidCore}
 use Rattle.core_meaning.specs.Calls.{Calls, no_procedures}
 use Rattle.core_meaning.specs.Conditions.{ensured}
 use Rattle.core_meaning.specs.Run.{with_procedure, run_src}
-use Rattle.core_meaning.specs.State.{State, first_state}
-use Rattle.core_meaning.specs.Statements.{Flow, exec}
+use Rattle.core_meaning.specs.State.{State, leave, first_state}
+use Rattle.core_meaning.specs.Statements.{Flow, exec, exec_all}
 use Rattle.region_soundness.specs.Fitting.{Entry}
 use Rattle.region_soundness.specs.Scoped.{Activation, Scoped}
 
@@ -59,6 +59,13 @@ StatementsKeepScopes =
     (core : ModuleCore) → ValidCore core → (k : ℕ) (p : ProcCore) → slice_get core.procs k ≡ Some p → (at : Point) (c : StmtCore) → PlaceIn p at → StmtTyped (env_of core (take k core.procs) p) at c
     → (entry : Entry) (waiting : List Activation) (s : State) → Scoped core (inside p at.scope entry) waiting s → (n : ℕ) (w : World)
     → Safe (KeepsScope core p at c entry waiting) (exec core (calls_before core k) (ensured core p) c n w s)
+
+-- each block leaves its place's names, however control leaves it
+abbrev pub BlocksKeepScopes : Type 0
+BlocksKeepScopes =
+    (core : ModuleCore) → ValidCore core → (k : ℕ) (p : ProcCore) → slice_get core.procs k ≡ Some p → (at : Point) (ss : StmtsCore) → PlaceIn p at → StmtsTyped (env_of core (take k core.procs) p) at ss
+    → (entry : Entry) (waiting : List Activation) (s : State) → Scoped core (inside p at.scope entry) waiting s → (n : ℕ) (w : World)
+    → Safe (λ flow u. Scoped core (inside p at.scope entry) waiting u) (block leave (exec_all core (calls_before core k) (ensured core p) ss) n w s)
 
 -- ---- runs
 

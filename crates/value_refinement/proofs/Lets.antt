@@ -247,7 +247,7 @@ module _ (g : Setting) (set : Set g) (objects : Map) (s : State) (stage : Stage 
           let d : Declares u p.value v = declares u p v related_u gives (comes.stands u (kept_same g.program p.next u)) in
           let u2 : CState = declare (local_name x) d.held u in
           let done : LetDone g objects s x e t Falls (with_name x v s) Falls u2 =
-          (v, gives, refl, kept_twice g.program x x t u u2 (omega arith) (kept_less g.program x from t u (omega (arith, new.below, le)) comes.kept) (kept_declared g.program x x d.held u (omega arith)), related_behind u d.held v related_u d.stands) in
+          (v, gives, refl, kept_twice g.program x x t u u2 (omega arith) (kept_less g.program x from t u (omega (arith, new.below, le)) comes.kept) (kept_declared g.program x x d.held u (omega arith)), related_behind u d.held v related_u d.stands, record { value = d.held; is = named_here (local_name x) (Holding d.held) u.frames.own }) in
           padded g s (LetDone g objects s x e t) (tick (naming x v)) (statement ∷ []) 0 0 (spare p) u z p.owed
           (λ i. pays_to g.frame.skip (LetDone g objects s x e t) 1 1 0 0 0 (naming x v) z s (omega arith) (omega arith) (λ j. running g (statement ∷ []) j z u) (λ j. running g [] j z u2)
           (runs_first g 1 statement [] z u u2 (takes_const g z u (local_name x) (type_in g.frame (type_of e)) p.value d.value d.held d.gives d.assigned))

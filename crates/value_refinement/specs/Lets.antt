@@ -12,8 +12,9 @@ use Rattle.core_meaning.specs.Gives.{Gives}
 use Rattle.core_meaning.specs.State.{State, with_name}
 use Rattle.core_meaning.specs.Statements.{Flow, naming}
 use Rattle.core_meaning.specs.Values.{Value}
-use Rattle.c_ast.specs.Syntax.{Stmt, Const}
-use Rattle.c_meaning.specs.State.{CState}
+use Rattle.c_ast.specs.Names.{named}
+use Rattle.c_ast.specs.Syntax.{Name, Stmt, Const}
+use Rattle.c_meaning.specs.State.{CState, Holding}
 use Rattle.c_meaning.specs.Values.{CValue}
 use Rattle.area_objects.specs.Both.{Map}
 use Rattle.lower_types.specs.Names.{local_name}
@@ -38,9 +39,14 @@ pub record IsNewLocal (g : Setting) (x : ℕ) (ty : ValueType) : Type 0 where
   pub before : (y : ℕ) (other : ValueType) → Contains g.scope y → slice_get g.env.locals y ≡ Some other → IsOld x (name_of g.frame y)
   pub in_body : g.env.outcome ≡ None
 
+-- the name holds a value, and names no object
+pub record IsHolding (x : Name) (u : CState) : Type 0 where
+  pub value : CValue
+  pub is : named u.frames.own x ≡ Some (Holding value)
+
 -- both fall through, with the name in scope
 abbrev pub LetDone : Setting → Map → State → ℕ → ExprCore → CState → Flow → State → Control (Option CValue) → CState → Type 0
-LetDone g objects s x e t Falls s2 Falls u = (v : Value) × Gives g.frame.core g.outcome s e v × (s2 ≡ with_name x v s) × Kept g.program x t u × Related (with_local g x) objects s2 u
+LetDone g objects s x e t Falls s2 Falls u = (v : Value) × Gives g.frame.core g.outcome s e v × (s2 ≡ with_name x v s) × Kept g.program x t u × Related (with_local g x) objects s2 u × IsHolding (local_name x) u
 LetDone g objects s x e t Falls s2 Broke u = ⊥
 LetDone g objects s x e t Falls s2 (Returned v) u = ⊥
 LetDone g objects s x e t Broke s2 control u = ⊥

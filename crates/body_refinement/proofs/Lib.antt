@@ -6,6 +6,8 @@ pub mod CopyAreas
 pub mod CopyCounters
 pub mod CopyLoops
 pub mod CopyParts
+pub mod Declaring
 pub mod FixedPlaces
 pub mod Copies
 pub mod Places
+pub mod QuietPieces

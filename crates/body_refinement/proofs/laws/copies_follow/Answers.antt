@@ -1,9 +1,7 @@
-use Rattle.body_refinement.proofs.CopyAreas.{part_copied}
-use Rattle.body_refinement.proofs.CopyParts.{struct_copied}
-use Rattle.body_refinement.proofs.AreaParts.{reference_leads}
-use Rattle.body_refinement.proofs.Aside.{aside_twice}
-use Rattle.body_refinement.proofs.CopyCounters.{counter_next}
+use Rattle.body_refinement.proofs.QuietPieces.{place_quiet}
+use Rattle.body_refinement.proofs.Declaring.{declared_fresh}
+use Rattle.body_refinement.proofs.Copies.{copies_follow}
 use Rattle.body_refinement.proofs.laws.copies_follow.Goals as goal
 
 pub returns : goal.returns
-returns c = ?
+returns c = λ d at target source place_in typed kinds small entry waiting objects s t before from le n w. copies_follow d at target source place_in typed kinds small entry waiting objects s t before from le n w

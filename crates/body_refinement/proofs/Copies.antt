@@ -24,7 +24,7 @@ use Rattle.core_meaning.specs.Areas.{Held, Area, Live, in_map, area_at, type_at,
 use Rattle.core_meaning.specs.Checks.{on_some}
 use Rattle.core_meaning.specs.Expressions.{eval}
 use Rattle.core_meaning.specs.Gives.{Gives}
-use Rattle.core_meaning.specs.State.{State, holding}
+use Rattle.core_meaning.specs.State.{State, value_of, holding}
 use Rattle.core_meaning.specs.Statements.{Flow, copy}
 use Rattle.core_meaning.specs.Values as source
 use Rattle.core_meaning.specs.Values.{Value}
@@ -36,9 +36,9 @@ use Rattle.c_meaning.specs.Memory.{memory_of}
 use Rattle.c_meaning.specs.Places.{Lvalue}
 use Rattle.c_meaning.specs.State.{CState}
 use Rattle.c_meaning.specs.Values.{CValue, Trouble}
-use Rattle.region_soundness.specs.Fitting.{Entry, ValueFits}
+use Rattle.region_soundness.specs.Fitting.{Entry, RefersAs, ValueFits}
 use Rattle.region_soundness.specs.Laws.{PlaceIn}
-use Rattle.region_soundness.specs.Scoped.{Activation}
+use Rattle.region_soundness.specs.Scoped.{Activation, NameFits}
 use Rattle.area_objects.specs.Both.{Map}
 use Rattle.area_objects.specs.Holds.{CanHold}
 use Rattle.lower_values.specs.Expressions.{place, reference_to}
@@ -65,7 +65,7 @@ use Rattle.body_refinement.proofs.Aside.{Aside, Fixed, aside_kept, aside_twice}
 use Rattle.body_refinement.proofs.Coming.{set_in, stage_in, came_with}
 use Rattle.body_refinement.proofs.CopyAreas.{part_copied}
 use Rattle.body_refinement.proofs.CopyParts.{PartIn, Copied, At}
-use Rattle.body_refinement.proofs.FixedPlaces.{Stays, place_stays}
+use Rattle.body_refinement.proofs.FixedPlaces.{HaveNumbers, Stays, place_stays}
 
 mutable_area : (constant : Bool) → IsTrue (not constant || false) → constant ≡ false
 mutable_area true e = let no : ⊥ = cc in absurd no
@@ -81,6 +81,15 @@ module _ (d : Lowered) (at_point : Point) (place_in : PlaceIn d.proc at_point) (
 
   stage : Stage g s
   stage = stage_in d at_point.scope entry waiting s before.scoped
+
+  numbers : HaveNumbers g s
+  numbers x ty here type plain = go fits.value fits.has fits.fits where
+    fits : NameFits d.core entry s.areas s.frames.own.names x ty
+    fits = before.scoped.frame.names x ty here type
+
+    go : (v : Value) → value_of x s ≡ Some v → ValueFits d.core entry s.areas ty v → (n : ℤ) × (value_of x s ≡ Some (source.Num n))
+    go (source.Num n) has h = (n, has)
+    go (source.Ref k path) has h = (let no : ⊥ = subst (λ o. RefersAs d.core entry s.areas o k path) plain h in absurd no)
 
   -- the type of what is copied
   abbrev ty : Written
@@ -225,13 +234,13 @@ module _ (d : Lowered) (at_point : Point) (place_in : PlaceIn d.proc at_point) (
   copy_follows small n w =
       subst (λ a. Follows g.frame.skip Post 0 0 n (bind (eval g.frame.core g.outcome target) (λ a. bind (eval g.frame.core g.outcome value) (λ b. copy g.frame.core a b)) n w s)
       (λ i. running g (first.before ++ (second.before ++ (copied g.frame (written_out d.core.structs a) first.place second.place second.next).stmts)) i w t)) (sym area_is)
-      (place_stays g set refl objects s stage target typed.target_is.typed (first_checks (expr_checks target) (expr_checks value) small) refers_to Flow Post (λ a. bind (eval g.frame.core g.outcome value) (λ b. copy g.frame.core a b))
+      (place_stays g set refl objects s stage numbers target typed.target_is.typed (first_checks (expr_checks target) (expr_checks value) small) refers_to Flow Post (λ a. bind (eval g.frame.core g.outcome value) (λ b. copy g.frame.core a b))
       (second.before ++ (copied g.frame ty first.place second.place second.next).stmts) 0 0 from le t before.related before.apart (record { by = on_target }) n w)
     where
       on_target : (k : ℕ) (path : List ℕ) (u : CState) → Gives g.frame.core g.outcome s target (source.Ref k path) → Arrives g objects s from first.place first.next (type_of target) t k path u → Stays g objects first.next u first.place
           → (m : ℕ) (z : World) → Follows g.frame.skip Post 0 0 m (bind (eval g.frame.core g.outcome value) (λ b. copy g.frame.core (source.Ref k path) b) m z s) (λ i. running g (second.before ++ (copied g.frame ty first.place second.place second.next).stmts) i z u)
       on_target k path u leads arrives stays m z =
-          place_stays g set refl objects s stage value typed.source_is.typed (last_checks (expr_checks target) (expr_checks value) small) refers_from Flow Post (λ b. copy g.frame.core (source.Ref k path) b)
+          place_stays g set refl objects s stage numbers value typed.source_is.typed (last_checks (expr_checks target) (expr_checks value) small) refers_from Flow Post (λ b. copy g.frame.core (source.Ref k path) b)
           (copied g.frame ty first.place second.place second.next).stmts 0 0 first.next (omega (arith, le, arrives.grows)) u
           (related_on g set objects s from le t u arrives.kept before.related) (counters_kept g set objects s from le t u arrives.kept before.apart)
           (record { by = λ j r v source_leads source_arrives source_stays i y. on_both k path u leads arrives stays j r v source_leads source_arrives source_stays i y }) m z

@@ -237,6 +237,20 @@ pub quiet_rows : (xs ys : List Stmt) → QuietRow xs → QuietRow ys → QuietRo
 quiet_rows [] ys h g = g
 quiet_rows (x ∷ xs) ys h g = (h.0, quiet_rows xs ys h.1 g)
 
+-- a statement that declares the name
+abbrev pub Names : Name → Stmt → Type 0
+Names x (Const y ty e) = y ≡ x
+Names x (ConstCall y ty c) = ⊥
+Names x (Object y b i) = y ≡ x
+Names x (Assign to e) = ⊥
+Names x (If e a) = ⊥
+Names x (IfElse e a b) = ⊥
+Names x (Forever a) = ⊥
+Names x Break = ⊥
+Names x (Return e) = ⊥
+Names x (Block a) = ⊥
+Names x (Call c) = ⊥
+
 module _ (p : Program) (f : Calls) where
   mutual
     stmt_adds : (s : Stmt) → Quiet s → (w : World) (t : CState) (n : ℕ) → Leaves (Adds t) (exec p f s n w t)
@@ -272,19 +286,6 @@ module _ (p : Program) (f : Calls) where
         row_leaves (Adds t) (Adds t) (exec p f s n w t) (exec_all p f ss) (stmt_adds s h.0 w t n) (λ v u m first. leaves_more (Adds u) (Adds t) (λ z later. adds_twice t u z first later) (exec_all p f ss m v u) (stmts_add ss h.1 v u m))
 
   -- ---- names that are declared
-
-  abbrev pub Names : Name → Stmt → Type 0
-  Names x (Const y ty e) = y ≡ x
-  Names x (ConstCall y ty c) = ⊥
-  Names x (Object y b i) = y ≡ x
-  Names x (Assign to e) = ⊥
-  Names x (If e a) = ⊥
-  Names x (IfElse e a b) = ⊥
-  Names x (Forever a) = ⊥
-  Names x Break = ⊥
-  Names x (Return e) = ⊥
-  Names x (Block a) = ⊥
-  Names x (Call c) = ⊥
 
   named_here : (x y : Name) (slot : Slot) (rest : List (Name × Slot)) → y ≡ x → named ((y, slot) ∷ rest) x ≡ Some slot
   named_here x y slot rest is = ap (λ b. if b then Some slot else named rest x) (ap (λ z. same_word z x) is ∙ same_self x)

@@ -1,4 +1,5 @@
 pub mod AreaParts
+pub mod Atoms
 pub mod Aside
 pub mod Choosing
 pub mod Coming

@@ -17,7 +17,7 @@ use Rattle.c_ast.specs.declared.CType.{CType}
 use Rattle.c_ast.specs.Syntax.{Expr, Place, Stmt, Const, Object, Assign, If, IfElse}
 use Rattle.c_ast.specs.View.{stmts_from}
 use Rattle.lower_values.specs.Choices.{is_logic, is_truth_chain, left_object, into, logic, choice}
-use Rattle.lower_values.specs.Conversions.{converted, wrapped, kept, bit_field, set_in, field_set, is_signed_type}
+use Rattle.lower_values.specs.Conversions.{range_guard, valued, converted, wrapped, kept, bit_field, set_in, field_set, is_signed_type}
 use Rattle.lower_values.specs.Expressions.{raw, place, index_piece, left_piece, binary_piece, prefixed, field_piece, after_object}
 use Rattle.lower_values.specs.Frames.{Frame, kind_in, type_in}
 use Rattle.lower_values.specs.Operators.{applied, operand}
@@ -85,7 +85,9 @@ operand_quiet : (f : Frame) (l : Label) (ty : ValueType) (p : Piece) → QuietPi
 operand_quiet f l ty p h = taken_quiet (type_in f ty) p h (has_checks l)
 
 converted_quiet : (f : Frame) (l : Label) (from : ValueType) (p : Piece) → QuietPiece p → QuietPiece (converted f l from p)
-converted_quiet f l from p h = quiet_rows (operand f l from p).before (tests f _ _ l.checks) (operand_quiet f l from p h) (tests_quiet f _ _ l.checks)
+converted_quiet f l from p h =
+    let guard : SiteKind → Expr = (λ which. range_guard f from l.ty (valued (kind_in f from) (operand f l from p).value)) in
+    quiet_rows (operand f l from p).before (tests f guard (λ which. false) l.checks) (operand_quiet f l from p h) (tests_quiet f guard (λ which. false) l.checks)
 
 into_quiet : (to : Place) (p : Piece) → QuietPiece p → QuietRow (into to p)
 into_quiet to p h = quiet_rows p.before (Assign to p.value ∷ []) h (tt, tt)
@@ -103,7 +105,7 @@ binary_quiet f o l ty p q h g =
     (applied_quiet f (kind_in f ty) (operator_of o) l _ (quiet_rows p.before (operand f l ty q).before h (operand_quiet f l ty q g)))
 
 choice_quiet : (f : Frame) (ty : ValueType) (t p q : Piece) → QuietPiece t → QuietPiece p → QuietPiece q → QuietPiece (choice f ty t p q)
-choice_quiet f ty t p q h a b = quiet_rows t.before (Object _ _ None ∷ IfElse _ (stmts_from (into _ p)) (stmts_from (into _ q)) ∷ []) h (tt, (into_quiet _ p a, into_quiet _ q b), tt)
+choice_quiet f ty t p q h a b = quiet_rows t.before (Object _ _ None ∷ IfElse _ (stmts_from (into _ p)) (stmts_from (into _ q)) ∷ []) h (tt, ((into_quiet _ p a, into_quiet _ q b), tt))
 
 padded_quiet : (ss : List Stmt) → QuietRow ss → QuietRow (ss ++ pad ∷ [])
 padded_quiet ss h = quiet_rows ss (pad ∷ []) h (tt, tt)

@@ -1,3 +1,4 @@
+use Rattle.body_refinement.proofs.Atoms.{index_atom}
 use Rattle.body_refinement.proofs.QuietPieces.{place_quiet}
 use Rattle.body_refinement.proofs.Declaring.{declared_fresh}
 use Rattle.body_refinement.proofs.Copies.{copies_follow}

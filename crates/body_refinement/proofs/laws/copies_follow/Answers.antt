@@ -1,0 +1,8 @@
+use Rattle.body_refinement.proofs.Atoms.{index_atom}
+use Rattle.body_refinement.proofs.QuietPieces.{place_quiet}
+use Rattle.body_refinement.proofs.Declaring.{declared_fresh}
+use Rattle.body_refinement.proofs.Copies.{copies_follow}
+use Rattle.body_refinement.proofs.laws.copies_follow.Goals as goal
+
+pub returns : goal.returns
+returns c = λ d at target source place_in typed kinds small entry waiting objects s t before from le n w. copies_follow d at target source place_in typed kinds small entry waiting objects s t before from le n w

@@ -241,9 +241,11 @@ module _ (g : Setting) (set : Set g) (objects : Map) (lawful : LawfulCalls g.fun
       left_both =
           both_kept (metric_of g.program.target) (CanHold (table_of g.program.target)) (memory_of g.program.target) g.naming objects (filled_to areas k p (suc i) us ws) (filled_to areas k p (suc i) us ws) behind.objects (leave u v).objects both_behind refl
           (let ended = ends.count in omega (arith, changed.count, ended))
-          (λ x e b l.
-          (l, same_twice (metric_of g.program.target) (memory_of g.program.target) behind.objects v.objects (leave u v).objects e
-          (changed.others e (λ is. no_area x (l.object ∙ ap Some is))) (ends.others e (at.both.made x e l.object))))
+          (λ x e b l. (
+            l,
+            same_twice (metric_of g.program.target) (memory_of g.program.target) behind.objects v.objects (leave u v).objects e
+                (changed.others e (λ is. no_area x (l.object ∙ ap Some is))) (ends.others e (at.both.made x e l.object)),
+          ))
 
     -- ---- a turn
 

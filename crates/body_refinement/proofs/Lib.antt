@@ -1,1 +1,5 @@
 pub mod Coming
+pub mod Places
+pub mod Counters
+pub mod Turns
+pub mod Rounds

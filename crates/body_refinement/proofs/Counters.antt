@@ -64,7 +64,7 @@ module _ (p : Program) (u : CState) (x : Name) (o i : ℕ) (small : i < 2 ^ 16) 
   pub counter_read : HasScalar p u counter_scalar (Read (Var x)) (pos i)
   counter_read = object_read p u x counter_scalar o (pos i) counter (counter_holds (table_of p.target) i small)
 
-  counter_held : IsHeld p u (Read (Var x)) (pos i)
+  abbrev counter_held : IsHeld p u (Read (Var x)) (pos i)
   counter_held = record { kind = Scalar counter_scalar; gives = counter_read.gives; has = counter_holds (table_of p.target) i small }
 
   -- whether it has come to a last number
@@ -77,7 +77,7 @@ module _ (p : Program) (u : CState) (x : Name) (o i : ℕ) (small : i < 2 ^ 16) 
   pub tests_nought : TestIs p u (Read (Var x)) (not (int_eq (pos i) (pos 0)))
   tests_nought = ap (λ r. on_ok r is_true) counter_read.gives
 
-  one_held : IsHeld p u (Number 1 Plain) (pos 1)
+  abbrev one_held : IsHeld p u (Number 1 Plain) (pos 1)
   one_held = record {
     kind = Computed Int;
     gives = subst (λ t. constant_value t Plain 1 ≡ Ok (Num (Computed Int) (pos 1))) (sym (target_is p.target)) refl;

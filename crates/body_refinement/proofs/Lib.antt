@@ -3,3 +3,4 @@ pub mod Places
 pub mod Counters
 pub mod Turns
 pub mod Rounds
+pub mod Loops

@@ -1,7 +1,8 @@
 -- States around the turns of a loop that counts: the name of the count, what the declaration of its counter keeps, and what both sides come to
 -- behind a turn that has counted.
 use Rattle.std.proofs.Common.{Contains, ◌≡◌, ◌≢◌, ◌⊎◌, ⊎_elim, inl, inr, ℕ, zero, suc, ◌<◌, ◌≤◌, ℤ, pos, Bool, true, false, List, [], ◌∷◌, length, Option, Some, None, refl, sym, ◌∙◌, ap, subst, arith}
-use Rattle.std.specs.Prelude.{slice_get, if◌then◌else◌}
+use Rattle.std.specs.Prelude.{slice_get, map, if◌then◌else◌}
+use Rattle.type_trees.specs.Values.{cells}
 use Rattle.area_types.specs.Syntax.{ValueType, Ix}
 use Rattle.c_memory.specs.Abstract.{Left, Same}
 use Rattle.c_ast.specs.Names.{named}
@@ -16,8 +17,9 @@ use Rattle.core_meaning.specs.State as source
 use Rattle.core_meaning.specs.State.{State, value_of, with_name}
 use Rattle.core_meaning.specs.Values.{Value, Num, Ref}
 use Rattle.area_objects.specs.Both.{Map, LiveIn}
-use Rattle.area_objects.specs.Holds.{HoldsArea}
+use Rattle.area_objects.specs.Holds.{CanHold, HoldsArea}
 use Rattle.area_objects.specs.PlaceLaws.{BothIn}
+use Rattle.area_objects.specs.Shapes.{shape}
 use Rattle.area_objects.proofs.Alike.{lawful_in, objects_hold_areas}
 use Rattle.region_soundness.proofs.Standing.{name_here, name_past}
 use Rattle.lower_types.specs.Names.{local_name}
@@ -27,7 +29,7 @@ use Rattle.lower_values.specs.Frames.{is_object, name_of}
 use Rattle.form_answers.specs.Standing.{HasScalar}
 use Rattle.value_refinement.specs.Kept.{Kept}
 use Rattle.value_refinement.specs.Related.{NameStands, Related}
-use Rattle.value_refinement.proofs.Keeping.{same_twice}
+use Rattle.value_refinement.proofs.Keeping.{older, same_twice}
 use Rattle.value_refinement.proofs.Lets.{place_with, stands_with}
 use Rattle.lowered_surroundings.specs.Surroundings.{naming_for}
 use Rattle.statement_refinement.specs.Apart.{OfNoArea, IsApart, CountersApart}
@@ -88,13 +90,26 @@ module _ (d : Lowered) (scope : List ℕ) (x length : ℕ) (type : slice_get (en
     old : Contains scope y → IsApart objects (named t.frames.own (name_of (frame_in d) y))
     old among = apart y ty n among type_is (sym (past y among) ∙ has)
 
+-- what moves on from a state with one more name moves on from the one without
+pub moved_unnamed : (d : Lowered) (next x : ℕ) (v : Value) → x ≡ next → (o1 o2 : Map) (s1 s2 : State) (t1 t2 : CState) → Moved (program_in d) (suc next) o1 (with_name x v s1) t1 o2 s2 t2 → Moved (program_in d) next o1 s1 t1 o2 s2 t2
+moved_unnamed d next x v is o1 o2 s1 s2 t1 t2 m = record {
+  extends = m.extends;
+  live = m.live;
+  count = m.count;
+  same = m.same;
+  apart = m.apart;
+  names = λ y old. m.names y (older next (suc next) y (omega arith) old);
+  callers = m.callers;
+  values = λ y lt. m.values y (omega (arith, lt)) ∙ name_past s1.frames.own.names x y v (λ same. absurd (omega (arith, lt, is, same)));
+}
+
 -- ---- the declaration of the counter
 
 module _ (d : Lowered) (objects : Map) (s : State) (t u : CState) (k : ℕ) (kept : Kept (program_in d) k t u) (both : BothIn d.target (naming_for d.core) objects s.areas t.objects) where
-  holds_on : (j o : ℕ) (a : Area) → LiveIn objects s.areas j o a → HoldsArea _ (memory_of d.target) (naming_for d.core) u.objects o a
+  holds_on : (j o : ℕ) (a : Area) → LiveIn objects s.areas j o a → HoldsArea (CanHold (table_of d.target)) (memory_of d.target) (naming_for d.core) u.objects o a
   holds_on j o a l =
       let h = both.holds j o a l in
-      record { fits = h.fits; shows = (kept.objects o (both.made j o l.object)).shows _ _ _ h.shows }
+      record { fits = h.fits; shows = (kept.objects o (both.made j o l.object)).shows a.constant (shape (naming_for d.core) a.ty) (map (λ n. Some n) (cells a.held)) h.shows }
 
   -- objects that no area has may come
   pub both_kept : BothIn d.target (naming_for d.core) objects s.areas u.objects

@@ -11,6 +11,7 @@ use Rattle.step_semantics.proofs.Leading.{leads_free}
 use Rattle.step_semantics.proofs.Paying.{reaches_more, takes_bind, takes_give, takes_tick}
 use Rattle.c_ast.specs.declared.CUnary.TheVariants.{Not}
 use Rattle.c_ast.specs.Syntax.{Name, Expr, Var, Unary, Stmt, Stmts, Assign, If, Break, Cons, Nil}
+use Rattle.c_ast.specs.Targets.{table_of}
 use Rattle.c_meaning.specs.Expressions.{eval}
 use Rattle.c_meaning.specs.State.{Program, CState, leave}
 use Rattle.c_meaning.specs.Statements.{exec, exec_all}
@@ -37,7 +38,7 @@ module _ {S T A B : Type 0} (excused : ℕ → Bool) where
 
   -- the second comes to its end within its credit
   pub ends_within : (post : A → S → B → T → Type 0) (c x n : ℕ) → c ≤ x → (w : World) (a : A) (s : S) (b : B) (t : T) (f : ℕ → Progress T B) → post a s b t → Reaches c w f (λ k. Finished b w t k) → Follows excused post x 0 n (Finished a w s n) f
-  ends_within post c x n le w a s b t f h r = record { value = b; state = t; holds = h; leads = leads_free x 0 n n f (λ k. Finished b w t k) (λ k. (c + k, omega arith, omega (arith, le), r.comes k)) }
+  ends_within post c x n le w a s b t f h r = record { value = b; state = t; holds = h; leads = leads_free x 0 n f (λ k. Finished b w t k) (λ k. (c + k, omega arith, omega (arith, le), r.comes k)) }
 
   -- with no step
   pub ends_here : (post : A → S → B → T → Type 0) (x n : ℕ) (w : World) (a : A) (s : S) (b : B) (t : T) → post a s b t → Follows excused post x 0 n (Finished a w s n) (λ j. Finished b w t j)
@@ -59,10 +60,10 @@ running_more g (x ∷ first) second j w t = onward_more (exec g.program g.functi
 
 -- ---- the end of a turn
 
-module _ (g : Setting) (x : Name) (more step : Expr) (w : World) (t : CState) where
-  abbrev pub closing : List Stmt
-  closing = unless_left more ∷ Assign (Var x) step ∷ []
+abbrev pub closing : Name → (more step : Expr) → List Stmt
+closing x more step = unless_left more ∷ Assign (Var x) step ∷ []
 
+module _ (g : Setting) (x : Name) (more step : Expr) (w : World) (t : CState) where
   breaks : Takes 1 (block leave (exec_all g.program g.functions (Cons Break Nil))) w t Broke t
   breaks = record { waits = waits; finishes = finishes } where
     waits : (j : ℕ) → j < 1 → block leave (exec_all g.program g.functions (Cons Break Nil)) j w t ≡ Exhausted w
@@ -83,7 +84,7 @@ module _ (g : Setting) (x : Name) (more step : Expr) (w : World) (t : CState) wh
       (takes_tick c (arm (not b)) w t control t h)
 
   -- the last turn breaks off
-  pub last_breaks : TestIs g.program t more false → Reaches 2 w (λ j. running g closing j w t) (λ k. Finished Broke w t k)
+  pub last_breaks : TestIs g.program t more false → Reaches 2 w (λ j. running g (closing x more step) j w t) (λ k. Finished Broke w t k)
   last_breaks tests =
       let h = takes_bind 2 0 (exec g.program g.functions (unless_left more)) (onward (running g (Assign (Var x) step ∷ []))) w t t t Broke Broke (leaves false tests 1 Broke breaks) (takes_give Broke w t) in
       record { waits = h.waits; comes = h.finishes }
@@ -91,15 +92,15 @@ module _ (g : Setting) (x : Name) (more step : Expr) (w : World) (t : CState) wh
   -- another turn counts
   module _ (o : ℕ) (value : Option ℤ) (counter : ObjectIs g.program t x counter_scalar o value) (n : ℕ) (small : n < 2 ^ 16) (is : Converts g.program t counter_scalar step (pos n)) where
     pub record Counted (u : CState) : Type 0 where
-      pub reaches : Reaches 2 w (λ j. running g closing j w t) (λ k. Finished Falls w u k)
-      pub assigned : Assigned g w t x counter_scalar o value counter step (pos n) is (counter_holds _ n small) u
+      pub reaches : Reaches 2 w (λ j. running g (closing x more step) j w t) (λ k. Finished Falls w u k)
+      pub assigned : Assigned g w t x counter_scalar o value counter step (pos n) is (counter_holds (table_of g.program.target) n small) u
 
     pub goes_round : TestIs g.program t more true → (u : CState) × Counted u
     goes_round tests =
-        let a = takes_assign g w t x counter_scalar o value counter step (pos n) is (counter_holds _ n small) in
+        let a = takes_assign g w t x counter_scalar o value counter step (pos n) is (counter_holds (table_of g.program.target) n small) in
         (a.0, record {
           reaches =
-              reaches_more 1 1 w (λ j. running g closing j w t) (λ j. running g (Assign (Var x) step ∷ []) j w t) (λ j. running g [] j w a.0)
+              reaches_more 1 1 w (λ j. running g (closing x more step) j w t) (λ j. running g (Assign (Var x) step ∷ []) j w t) (λ j. running g [] j w a.0)
               (runs_first g 1 (unless_left more) (Assign (Var x) step ∷ []) w t t (leaves true tests 0 Falls (takes_give Falls w t)))
               (runs_first g 1 (Assign (Var x) step) [] w t a.0 a.1);
           assigned = a.2;

@@ -1,0 +1,223 @@
+-- Loops that count, where their bodies follow: the counter's declaration takes the loop's own step, and each turn of the source is a block of C
+-- that is left after the test and the count. What differs from loop to loop is given: the numbers, the test, the count, and what they need.
+use Rattle.std.proofs.Common.{Contains, ◌≡◌, ◌≢◌, ℕ, zero, suc, ◌+◌, ◌<◌, ◌≤◌, ◌^◌, ℤ, pos, Bool, true, false, List, [], ◌∷◌, ◌++◌, length, Option, Some, None, refl, sym, ◌∙◌, ap, subst, arith}
+use Rattle.std.specs.Prelude.{slice_get, IsTrue, take}
+use Rattle.std.proofs.iter.runs.Lists.{slice_get_within}
+use Rattle.step_semantics.specs.Alike.{Same, Turned, LastTurned}
+use Rattle.step_semantics.specs.Control.{Control, Falls, Broke, Returned, onward, forever, counted}
+use Rattle.step_semantics.specs.Follows.{Follows}
+use Rattle.step_semantics.specs.Lawful.{Lawful}
+use Rattle.step_semantics.specs.Safe.{Safe}
+use Rattle.step_semantics.specs.Steps.{World, Progress, Finished, Halted, Exhausted, Part, after, tick, block}
+use Rattle.step_semantics.proofs.CountedFollows.{counted_follows}
+use Rattle.step_semantics.proofs.Following.{as_is, blocked, eased, finished, weaker}
+use Rattle.step_semantics.proofs.Paying.{pays_to}
+use Rattle.area_types.specs.Syntax.{Ix}
+use Rattle.area_types.specs.Tables.{is_length}
+use Rattle.area_types.proofs.Truths.{is_at_most}
+use Rattle.core_tree.specs.Checks.{stmts_checks}
+use Rattle.core_tree.specs.Environments.{Point, within_loop}
+use Rattle.core_tree.specs.Syntax.{StmtsCore}
+use Rattle.core_tree.specs.TypedStatements.{StmtsTyped, LoopTyped}
+use Rattle.core_meaning.specs.Conditions.{ensured}
+use Rattle.core_meaning.specs.State as source
+use Rattle.core_meaning.specs.State.{State, with_name}
+use Rattle.core_meaning.specs.Statements.{Flow, turn, exec_all}
+use Rattle.core_meaning.specs.Values.{Value, Num}
+use Rattle.c_memory.specs.Abstract.{Same as SameObject}
+use Rattle.c_ast.specs.declared.CBase.TheVariants as base
+use Rattle.c_ast.specs.Names.{named}
+use Rattle.c_ast.specs.Scalars.{metric_of}
+use Rattle.c_ast.specs.Syntax.{Expr, Stmt, Block}
+use Rattle.c_ast.specs.View.{stmts_from}
+use Rattle.c_ast.specs.Targets.{table_of}
+use Rattle.c_meaning.proofs.Lawful.{exec_lawful}
+use Rattle.c_meaning.specs.Memory.{memory_of}
+use Rattle.c_meaning.specs.State as target
+use Rattle.c_meaning.specs.State.{CState}
+use Rattle.c_meaning.specs.Values.{CValue}
+use Rattle.area_objects.specs.Both.{Map}
+use Rattle.area_objects.specs.PlaceLaws.{BothIn}
+use Rattle.area_objects.proofs.Alike.{objects_hold_areas}
+use Rattle.region_soundness.specs.Fitting.{Entry}
+use Rattle.region_soundness.specs.Laws.{PlaceIn, calls_before, inside}
+use Rattle.region_soundness.specs.Scoped.{Activation, AreasFit, Scoped}
+use Rattle.region_soundness.proofs.Scopes.{named_scoped, left_scoped, stmts_last}
+use Rattle.region_soundness.proofs.Standing.{Lasts}
+use Rattle.region_soundness.proofs.Statements.{index_below}
+use Rattle.lower_types.specs.Names.{local_name}
+use Rattle.lower_values.specs.Frames.{allocated, is_object, name_of}
+use Rattle.lower_statements.specs.Loops.{counter, turns}
+use Rattle.lower_statements.specs.Statements.{stmts_body}
+use Rattle.form_answers.specs.Standing.{Converts, HasScalar, TestIs}
+use Rattle.value_refinement.specs.Kept.{Kept}
+use Rattle.value_refinement.specs.Laws.{Numbered, running}
+use Rattle.value_refinement.specs.Related.{Related}
+use Rattle.value_refinement.proofs.Keeping.{kept_less, kept_twice, same_twice}
+use Rattle.value_refinement.proofs.Objects.{ObjectIs, Assigned, object_left, takes_object_with}
+use Rattle.value_refinement.proofs.Operands.{local_is_old}
+use Rattle.value_refinement.proofs.Running.{runs_first}
+use Rattle.value_refinement.proofs.Standings.{related_on}
+use Rattle.lowered_surroundings.specs.Surroundings.{naming_for}
+use Rattle.statement_refinement.specs.Apart.{OfNoArea, IsApart, CountersApart}
+use Rattle.statement_refinement.specs.Moves.{Moved}
+use Rattle.statement_refinement.proofs.Moves.{states_move_on}
+use Rattle.body_refinement.specs.Bodies.{Lowered, env_in, frame_in, home_in, program_in, within}
+use Rattle.body_refinement.specs.Kinds.{AllKindsAre}
+use Rattle.body_refinement.specs.Statements.{CameTo, CameBack, StmtsDone, Before, StmtsFollow}
+use Rattle.body_refinement.proofs.Coming.{set_in, scope_before, came_join, back_join, left_moved, left_came, left_back, kept_moved}
+use Rattle.body_refinement.proofs.Counters.{counter_scalar, counter_holds, counter_read}
+use Rattle.body_refinement.proofs.Places.{place_named, params_before, local_named}
+use Rattle.body_refinement.proofs.Rounds.{related_named, apart_named, moved_unnamed, both_kept, next_is_free, round_moved, round_both}
+use Rattle.body_refinement.proofs.Turns.{follows_safely, ends_within, ends_here, running_more, closing, last_breaks, goes_round}
+
+-- whether more turns come behind one
+abbrev pub is_more : ℕ → Bool
+is_more zero = false
+is_more (suc m) = true
+
+nothing_behind : {S V : Type 0} (r : Progress S (Control V)) (rest : Part S (Control V)) → ((n : ℕ) (w : World) (s : S) → rest n w s ≡ Finished Falls w s n) → after r (onward rest) ≡ r
+nothing_behind (Finished Falls w s n) rest h = h n w s
+nothing_behind (Finished Broke w s n) rest h = refl
+nothing_behind (Finished (Returned v) w s n) rest h = refl
+nothing_behind (Halted how w seen) rest h = refl
+nothing_behind (Exhausted w) rest h = refl
+
+module _ (d : Lowered) (at : Point) (number length_of : ℕ) (body : StmtsCore) (place : PlaceIn d.proc at) (typed : LoopTyped (env_in d) at number length_of) (body_typed : StmtsTyped (env_in d) (within_loop number at) body)
+    (value : is_object (frame_in d) number ≡ false) (kinds : AllKindsAre (allocated d.proc.body) body) (small : Numbered (stmts_checks body)) (follows : StmtsFollow d (within_loop number at) body)
+    (entry : Entry) (waiting : List Activation) (objects : Map) (s : State) (t : CState) (before : Before d at entry waiting objects s t) (from : ℕ) (le : length d.proc.locals ≤ from) where
+  abbrev inner : Point
+  inner = within_loop number at
+
+  inner_place : PlaceIn d.proc inner
+  inner_place = place_named d.proc at place inner (ap (λ n. n ∷ at.scope) typed.name.number_is) (omega arith)
+
+  name_is : name_of (frame_in d) number ≡ local_name number
+  name_is = local_named d number (omega (arith, params_before d.proc at place, typed.name.number_is))
+
+  earlier : (y : ℕ) → Contains at.scope y → y < number
+  earlier y among = let lt = place.before y among in omega (arith, lt, typed.name.number_is)
+
+  length_small : (i : ℕ) → i < length_of → i < 2 ^ 16
+  length_small i lt = let h : length_of ≤ 65535 = short length_of typed.in_range in omega (arith, lt, h) where
+    short : (n : ℕ) → IsTrue (is_length n) → n ≤ 65535
+    short n h = grind (arith)
+
+  -- what is known where control leaves the body
+  abbrev Known : State → Flow → State → Type 0
+  Known u flow v = Lasts u v × AreasFit d.core.structs v.areas
+
+  -- ---- one turn
+
+  module _ (s1 : State) (t1 : CState) (came : CameTo d at.next objects s t s1 t1) (scoped : Scoped d.core (inside d.proc at.scope entry) waiting s1) (i o : ℕ) (lt : i < length_of)
+      (has : ObjectIs (program_in d) t1 (local_name number) counter_scalar o (Some (pos i))) (free : OfNoArea came.more o) where
+    abbrev begun : State
+    begun = with_name number (Num (pos i)) s1
+
+    abbrev related_1 : Related (within d at.scope) came.more s1 t1 × CountersApart (within d at.scope) came.more s1 t1
+    related_1 = states_move_on (within d at.scope) refl at.next (scope_before d at place) objects s t before.related before.apart came.more s1 t1 came.moved came.both
+
+    slot_apart : IsApart came.more (named t1.frames.own (local_name number))
+    slot_apart = subst (IsApart came.more) (sym has.slot) free
+
+    begun_scoped : Scoped d.core (inside d.proc inner.scope entry) waiting begun
+    begun_scoped =
+        subst (λ x. Scoped d.core (inside d.proc (x ∷ at.scope) entry) waiting (with_name x (Num (pos i)) s1)) (sym typed.name.number_is)
+        (named_scoped d.core d.valid d.number d.proc d.is entry waiting at place s1 scoped (Ix length_of) (Num (pos i)) (ap (slice_get d.proc.locals) (sym typed.name.number_is) ∙ typed.name.type) (index_below length_of i lt))
+
+    before_body : Before d inner entry waiting came.more begun t1
+    before_body = record {
+      room = (let r : number < length d.proc.locals = slice_get_within d.proc.locals number (Ix length_of) typed.name.type in omega (arith, r, typed.name.number_is));
+      scoped = begun_scoped;
+      related = related_named d at.scope number length_of typed.name.type earlier value name_is came.more s1 t1 related_1.0 related_1.1 i o slot_apart (counter_read (program_in d) t1 (local_name number) o i (length_small i lt) has);
+      apart = apart_named d at.scope number length_of typed.name.type earlier value name_is came.more s1 t1 related_1.0 related_1.1 i o slot_apart (counter_read (program_in d) t1 (local_name number) o i (length_small i lt) has);
+    }
+
+    -- the body, and what is known behind it
+    body_follows : (n : ℕ) (w : World)
+        → Follows d.skip (λ a v b u. StmtsDone d entry inner.next came.more begun t1 a v b u × Known begun a v) 0 0 n (exec_all d.core (calls_before d.core d.number) (ensured d.core d.proc) body n w begun)
+        (λ j. running (within d at.scope) (stmts_body (frame_in d) (home_in d) body from).stmts j w t1)
+    body_follows n w =
+        follows_safely d.skip (StmtsDone d entry inner.next came.more begun t1) (Known begun) 0 0 n (exec_all d.core (calls_before d.core d.number) (ensured d.core d.proc) body n w begun)
+        (λ j. running (within d at.scope) (stmts_body (frame_in d) (home_in d) body from).stmts j w t1)
+        (follows inner_place body_typed kinds small entry waiting came.more begun t1 before_body from le n w)
+        (stmts_last d.core d.valid d.number d.proc d.is entry waiting inner inner_place begun begun_scoped body body_typed n w)
+
+  -- ---- what differs from loop to loop
+
+  -- `Within m i` says that i may be the count of a turn behind which m turns come, and `Lasting` what the test needs of the state of C, where
+  -- the counter is the object of that number
+  module _ (next : ℕ → ℕ) (more step : Expr) (Within : ℕ → ℕ → Type 0) (below : (m i : ℕ) → Within m i → i < length_of) (goes_on : (m i : ℕ) → Within (suc m) i → Within m (next i))
+      (Lasting : Map → ℕ → CState → Type 0)
+      (in_body : (o : ℕ) (more_objects : Map) (s1 : State) (t1 : CState) → o < length t1.objects → Lasting more_objects o t1 → (s2 : State) (t2 : CState) (came : CameTo d (suc at.next) more_objects s1 t1 s2 t2) → Lasting came.more o t2)
+      (in_turn : (o : ℕ) (o1 o2 : Map) (t1 t2 : CState) → t2.frames.own ≡ t1.frames.own
+          → ((q : ℕ) → q < length t1.objects → OfNoArea o1 q → q ≢ o → SameObject (metric_of d.target) (memory_of d.target) t1.objects t2.objects q × OfNoArea o2 q) → Lasting o1 o t1 → Lasting o2 o t2)
+      (tests : (m i : ℕ) → Within m i → (objects : Map) (u : CState) (o : ℕ) → Lasting objects o u → ObjectIs (program_in d) u (local_name number) counter_scalar o (Some (pos i)) → TestIs (program_in d) u more (is_more m))
+      (counts : (m i : ℕ) → Within (suc m) i → (u : CState) (o : ℕ) → ObjectIs (program_in d) u (local_name number) counter_scalar o (Some (pos i)) → Converts (program_in d) u counter_scalar step (pos (next i))) where
+    -- before a turn of count i, behind which m turns come
+    pub record Head (m i : ℕ) (s1 : State) (t1 : CState) : Type 0 where
+      pub came : CameTo d at.next objects s t s1 t1
+      pub scoped : Scoped d.core (inside d.proc at.scope entry) waiting s1
+      pub object : ℕ
+      pub has : ObjectIs (program_in d) t1 (local_name number) counter_scalar object (Some (pos i))
+      pub made : object < length t1.objects
+      pub since : length t.objects ≤ object
+      pub free : OfNoArea came.more object
+      pub lasting : Lasting came.more object t1
+      pub within_it : Within m i
+
+    abbrev Rel : State → CState → Type 0
+    Rel = CameTo d at.next objects s t
+
+    abbrev Back : Option Value → State → Option CValue → CState → Type 0
+    Back = CameBack d at.next objects s t entry
+
+    abbrev source_body : Part State Flow
+    source_body = exec_all d.core (calls_before d.core d.number) (ensured d.core d.proc) body
+
+    abbrev body_code : List Stmt
+    body_code = (stmts_body (frame_in d) (home_in d) body from).stmts
+
+    abbrev turn_code : List Stmt
+    turn_code = body_code ++ closing (local_name number) more step
+
+    abbrev turn_part : Part CState (Control (Option CValue))
+    turn_part = block target.leave (running (within d at.scope) turn_code)
+
+    -- what a turn may leave, where more come and behind the last
+    abbrev Ended : (is_last : Bool) → (ℕ → ℕ → State → CState → Type 0) → ℕ → ℕ → Flow → State → Control (Option CValue) → CState → Type 0
+    Ended true head m i = LastTurned Rel Back
+    Ended false head m i = Turned Rel Back (head m i)
+
+    module _ (m i : ℕ) (s1 : State) (t1 : CState) (h : Head m i s1 t1) where
+      i_small : i < 2 ^ 16
+      i_small = length_small i (below m i h.within_it)
+
+      abbrev starts : State
+      starts = with_name number (Num (pos i)) s1
+
+      both_1 : BothIn d.target (naming_for d.core) h.came.more s1.areas t1.objects
+      both_1 = h.came.both
+
+      -- where the body ended
+      module _ (v : State) (u : CState) (body_came : CameTo d inner.next h.came.more starts t1 v u) where
+        unnamed : Moved (program_in d) at.next h.came.more s1 t1 body_came.more v u
+        unnamed = moved_unnamed d at.next number (Num (pos i)) typed.name.number_is h.came.more body_came.more s1 v t1 u body_came.moved
+
+        left_here : CameTo d at.next h.came.more s1 t1 (source.leave s1 v) (target.leave t1 u)
+        left_here = left_came d at.next at.next (omega arith) h.came.more s1 t1 both_1 body_came.more v u unnamed body_came.both
+
+        -- control leaves the loop
+        leaves_loop : Rel (source.leave s1 v) (target.leave t1 u)
+        leaves_loop = came_join d at.next at.next (omega arith) objects h.came.more s s1 (source.leave s1 v) t t1 (target.leave t1 u) h.came.moved left_here
+
+        still_counter : ObjectIs (program_in d) u (local_name number) counter_scalar h.object (Some (pos i))
+        still_counter = record {
+          slot = body_came.moved.names (local_name number) counter_old ∙ h.has.slot;
+          shows = (body_came.moved.same h.object h.made h.free).shows _ _ _ h.has.shows;
+        } where
+          counter_old : (j : ℕ) → inner.next ≤ j → local_name number ≢ local_name j
+          counter_old = local_is_old number inner.next (omega (arith, typed.name.number_is))
+
+        free_later : OfNoArea body_came.more h.object
+        free_later = body_came.moved.apart h.object h.made h.free

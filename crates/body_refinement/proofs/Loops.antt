@@ -38,7 +38,7 @@ use Rattle.c_meaning.specs.State.{CState}
 use Rattle.c_meaning.specs.Values.{CValue}
 use Rattle.area_objects.specs.Both.{Map}
 use Rattle.area_objects.specs.PlaceLaws.{BothIn}
-use Rattle.area_objects.proofs.Alike.{objects_hold_areas}
+use Rattle.area_objects.proofs.Alike.{lawful_in}
 use Rattle.region_soundness.specs.Fitting.{Entry}
 use Rattle.region_soundness.specs.Laws.{PlaceIn, calls_before, inside}
 use Rattle.region_soundness.specs.Scoped.{Activation, AreasFit, Scoped}
@@ -54,7 +54,7 @@ use Rattle.value_refinement.specs.Kept.{Kept}
 use Rattle.value_refinement.specs.Laws.{Numbered, running}
 use Rattle.value_refinement.specs.Related.{Related}
 use Rattle.value_refinement.proofs.Keeping.{kept_less, kept_twice, same_twice}
-use Rattle.value_refinement.proofs.Objects.{ObjectIs, Assigned, object_left, takes_object_with}
+use Rattle.value_refinement.proofs.Objects.{ObjectIs, Assigned, object_left, object_made, takes_object_with}
 use Rattle.value_refinement.proofs.Operands.{local_is_old}
 use Rattle.value_refinement.proofs.Running.{runs_first}
 use Rattle.value_refinement.proofs.Standings.{related_on}
@@ -62,13 +62,14 @@ use Rattle.lowered_surroundings.specs.Surroundings.{naming_for}
 use Rattle.statement_refinement.specs.Apart.{OfNoArea, IsApart, CountersApart}
 use Rattle.statement_refinement.specs.Moves.{Moved}
 use Rattle.statement_refinement.proofs.Moves.{states_move_on}
+use Rattle.statement_refinement.proofs.Movements.{moves_join}
 use Rattle.body_refinement.specs.Bodies.{Lowered, env_in, frame_in, home_in, program_in, within}
 use Rattle.body_refinement.specs.Kinds.{AllKindsAre}
 use Rattle.body_refinement.specs.Statements.{CameTo, CameBack, StmtsDone, Before, StmtsFollow}
 use Rattle.body_refinement.proofs.Coming.{set_in, scope_before, came_join, back_join, left_moved, left_came, left_back, kept_moved}
 use Rattle.body_refinement.proofs.Counters.{counter_scalar, counter_holds, counter_read}
 use Rattle.body_refinement.proofs.Places.{place_named, params_before, local_named}
-use Rattle.body_refinement.proofs.Rounds.{related_named, apart_named, moved_unnamed, both_kept, next_is_free, round_moved, round_both}
+use Rattle.body_refinement.proofs.Rounds.{related_named, apart_named, moved_unnamed, both_counted, both_made, next_is_free, round_moved, round_both}
 use Rattle.body_refinement.proofs.Turns.{follows_safely, ends_within, ends_here, running_more, closing, last_breaks, goes_round}
 
 -- whether more turns come behind one
@@ -221,3 +222,57 @@ module _ (d : Lowered) (at : Point) (number length_of : ℕ) (body : StmtsCore) 
 
         free_later : OfNoArea body_came.more h.object
         free_later = body_came.moved.apart h.object h.made h.free
+
+        lasting_later : Lasting body_came.more h.object u
+        lasting_later = in_body h.object h.came.more starts t1 h.made h.lasting v u body_came
+
+        -- what is behind the turn, where it has counted
+        module _ (w : World) (small_next : next i < 2 ^ 16) (within_next : (k : ℕ) × (m ≡ suc k) × Within k (next i)) (is : Converts (program_in d) u counter_scalar step (pos (next i))) (z : CState)
+            (done : Assigned (within d at.scope) w u (local_name number) counter_scalar h.object (Some (pos i)) still_counter step (pos (next i)) is (counter_holds (table_of d.target) (next i) small_next) z)
+            (again : Scoped d.core (inside d.proc at.scope entry) waiting (source.leave s1 v)) where
+          written : BothIn d.target (naming_for d.core) body_came.more v.areas z.objects
+          written = both_counted d body_came.more v.areas u.objects z.objects body_came.both h.object free_later done.count done.others
+
+          whole : Moved (program_in d) at.next objects s t body_came.more (source.leave s1 v) (target.leave t1 z)
+          whole =
+              round_moved d at.next objects s t h.came.more s1 t1 h.came.moved body_came.more v u leaves_moved still h.object h.since z done.frames (omega (arith, done.count, body_came.moved.count)) done.others
+            where
+              leaves_moved : Moved (program_in d) at.next objects s t body_came.more (source.leave s1 v) (target.leave t1 u)
+              leaves_moved = moves_join (program_in d) at.next at.next (omega arith) objects h.came.more body_came.more s s1 (source.leave s1 v) t t1 (target.leave t1 u) h.came.moved
+                  (left_moved d at.next at.next (omega arith) h.came.more s1 t1 both_1 body_came.more v u unnamed body_came.both)
+
+              still : (q : ℕ) → q < length t.objects → OfNoArea objects q → SameObject (metric_of d.target) (memory_of d.target) t.objects u.objects q
+              still q lt none =
+                  same_twice (metric_of d.target) (memory_of d.target) t.objects t1.objects u.objects q (h.came.moved.same q lt none)
+                  (body_came.moved.same q (omega (arith, lt, h.came.moved.count)) (h.came.moved.apart q lt none))
+
+          counter_on : ObjectIs (program_in d) (target.leave t1 z) (local_name number) counter_scalar h.object (Some (pos (next i)))
+          counter_on =
+              object_left (program_in d) t1 z (local_name number) counter_scalar h.object (Some (pos (next i))) (omega (arith, done.count, body_came.moved.count)) h.made h.has.slot done.shows
+
+          lasting_on : Lasting body_came.more h.object (target.leave t1 z)
+          lasting_on = in_turn h.object h.came.more body_came.more t1 (target.leave t1 z) refl stays h.lasting where
+            stays : (q : ℕ) → q < length t1.objects → OfNoArea h.came.more q → q ≢ h.object → SameObject (metric_of d.target) (memory_of d.target) t1.objects (target.leave t1 z).objects q × OfNoArea body_came.more q
+            stays q lt none differ = (
+              same_twice (metric_of d.target) (memory_of d.target) t1.objects z.objects (target.leave t1 z).objects q
+                  (same_twice (metric_of d.target) (memory_of d.target) t1.objects u.objects z.objects q (body_came.moved.same q lt none) (done.others q differ))
+                  (((lawful_in (table_of d.target)).leaves z.objects (length t1.objects)).others q lt),
+              body_came.moved.apart q lt none,
+            )
+
+          next_head : Head within_next.0 (next i) (source.leave s1 v) (target.leave t1 z)
+          next_head = record {
+            came = record {
+              more = body_came.more;
+              moved = whole;
+              both = round_both d h.came.more s1 t1 both_1 body_came.more v z body_came.moved.extends written;
+            };
+            scoped = again;
+            object = h.object;
+            has = counter_on;
+            made = object_made (program_in d) (target.leave t1 z) (local_name number) counter_scalar h.object (Some (pos (next i))) counter_on;
+            since = h.since;
+            free = free_later;
+            lasting = lasting_on;
+            within_it = within_next.2;
+          }

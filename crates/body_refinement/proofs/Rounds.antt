@@ -9,10 +9,10 @@ use Rattle.c_ast.specs.Names.{named}
 use Rattle.c_ast.specs.Scalars.{metric_of}
 use Rattle.c_ast.specs.Syntax.{Read, Address, Var, At}
 use Rattle.c_ast.specs.Targets.{table_of}
-use Rattle.c_meaning.specs.Memory.{memory_of}
+use Rattle.c_meaning.specs.Memory.{CObjects, memory_of}
 use Rattle.c_meaning.specs.State as target
 use Rattle.c_meaning.specs.State.{CState}
-use Rattle.core_meaning.specs.Areas.{Area}
+use Rattle.core_meaning.specs.Areas.{Area, Areas}
 use Rattle.core_meaning.specs.State as source
 use Rattle.core_meaning.specs.State.{State, value_of, with_name}
 use Rattle.core_meaning.specs.Values.{Value, Num, Ref}
@@ -27,7 +27,6 @@ use Rattle.lower_values.specs.Expressions as lowered
 use Rattle.lower_values.specs.Expressions.{local_value, local_place}
 use Rattle.lower_values.specs.Frames.{is_object, name_of}
 use Rattle.form_answers.specs.Standing.{HasScalar}
-use Rattle.value_refinement.specs.Kept.{Kept}
 use Rattle.value_refinement.specs.Related.{NameStands, Related}
 use Rattle.value_refinement.proofs.Keeping.{older, same_twice}
 use Rattle.value_refinement.proofs.Lets.{place_with, stands_with}
@@ -103,61 +102,70 @@ moved_unnamed d next x v is o1 o2 s1 s2 t1 t2 m = record {
   values = λ y lt. m.values y (omega (arith, lt)) ∙ name_past s1.frames.own.names x y v (λ same. absurd (omega (arith, lt, is, same)));
 }
 
--- ---- the declaration of the counter
+-- ---- the counter
 
-module _ (d : Lowered) (objects : Map) (s : State) (t u : CState) (k : ℕ) (kept : Kept (program_in d) k t u) (both : BothIn d.target (naming_for d.core) objects s.areas t.objects) where
-  holds_on : (j o : ℕ) (a : Area) → LiveIn objects s.areas j o a → HoldsArea (CanHold (table_of d.target)) (memory_of d.target) (naming_for d.core) u.objects o a
-  holds_on j o a l =
-      let h = both.holds j o a l in
-      record { fits = h.fits; shows = (kept.objects o (both.made j o l.object)).shows a.constant (shape (naming_for d.core) a.ty) (map (λ n. Some n) (cells a.held)) h.shows }
+-- objects that no area has may come and change
+module _ (d : Lowered) (objects : Map) (areas : Areas) (before after : CObjects) (both : BothIn d.target (naming_for d.core) objects areas before) where
+  module _ (count : length before ≤ length after) (same : (k o : ℕ) → slice_get objects k ≡ Some o → Same (metric_of d.target) (memory_of d.target) before after o) where
+    holds_on : (j o : ℕ) (a : Area) → LiveIn objects areas j o a → HoldsArea (CanHold (table_of d.target)) (memory_of d.target) (naming_for d.core) after o a
+    holds_on j o a l =
+        let h = both.holds j o a l in
+        record { fits = h.fits; shows = (same j o l.object).shows a.constant (shape (naming_for d.core) a.ty) (map (λ n. Some n) (cells a.held)) h.shows }
 
-  -- objects that no area has may come
-  pub both_kept : BothIn d.target (naming_for d.core) objects s.areas u.objects
-  both_kept = record { many = both.many; made = λ j o e. (let lt = both.made j o e in omega (arith, lt, kept.count)); apart = both.apart; holds = holds_on }
+    both_on : BothIn d.target (naming_for d.core) objects areas after
+    both_on = record { many = both.many; made = λ j o e. (let lt = both.made j o e in omega (arith, lt, count)); apart = both.apart; holds = holds_on }
 
-  pub next_is_free : OfNoArea objects (length t.objects)
-  next_is_free j e = let lt = both.made j (length t.objects) e in absurd (omega (arith, lt))
+  pub both_made : length before ≤ length after → ((o : ℕ) → o < length before → Same (metric_of d.target) (memory_of d.target) before after o) → BothIn d.target (naming_for d.core) objects areas after
+  both_made count same = both_on count (λ k o e. same o (both.made k o e))
+
+  pub both_counted : (counter : ℕ) → OfNoArea objects counter → length after ≡ length before → ((o : ℕ) → o ≢ counter → Same (metric_of d.target) (memory_of d.target) before after o) → BothIn d.target (naming_for d.core) objects areas after
+  both_counted counter free count same = both_on (omega (arith, count)) (λ k o e. same o (λ is. free k (e ∙ ap Some is)))
+
+  pub next_is_free : OfNoArea objects (length before)
+  next_is_free j e = let lt = both.made j (length before) e in absurd (omega (arith, lt))
 
 -- ---- a turn that has counted
 
--- From states before the loop to a turn's start, to where its body ended, and to where the counter was assigned: the block's end comes from there
--- to the next turn.
-module _ (d : Lowered) (next : ℕ) (o0 : Map) (s0 : State) (t0 : CState) (o1 : Map) (s1 : State) (t1 : CState) (first : Moved (program_in d) next o0 s0 t0 o1 s1 t1) (both1 : BothIn d.target (naming_for d.core) o1 s1.areas t1.objects)
-    (o2 : Map) (s2 : State) (t2 : CState) (moved : Moved (program_in d) next o0 s0 t0 o2 (source.leave s1 s2) (target.leave t1 t2)) (extends : (k o : ℕ) → slice_get o1 k ≡ Some o → slice_get o2 k ≡ Some o)
-    (still : (o : ℕ) → o < length t0.objects → OfNoArea o0 o → Same (metric_of d.target) (memory_of d.target) t0.objects t2.objects o) (both2 : BothIn d.target (naming_for d.core) o2 s2.areas t2.objects)
-    (counter : ℕ) (since : length t0.objects ≤ counter) (free : OfNoArea o2 counter)
-    (t3 : CState) (frames : t3.frames ≡ t2.frames) (count : length t3.objects ≡ length t2.objects) (more : length t1.objects ≤ length t2.objects)
-    (others : (o : ℕ) → o ≢ counter → Same (metric_of d.target) (memory_of d.target) t2.objects t3.objects o) (written : BothIn d.target (naming_for d.core) o2 s2.areas t3.objects) where
+there_is : {A : Type 0} (xs : List A) (k : ℕ) → k < length xs → (x : A) × (slice_get xs k ≡ Some x)
+there_is [] k lt = absurd (omega (arith, lt))
+there_is (x ∷ xs) zero lt = (x, refl)
+there_is (x ∷ xs) (suc k) lt = there_is xs k (omega (arith, lt))
+
+-- from the turn's start to where the counter was assigned, and out of the block
+module _ (d : Lowered) (o1 : Map) (s1 : State) (t1 : CState) (both : BothIn d.target (naming_for d.core) o1 s1.areas t1.objects) (o2 : Map) (s2 : State) (t3 : CState) (extends : (k o : ℕ) → slice_get o1 k ≡ Some o → slice_get o2 k ≡ Some o)
+    (now : BothIn d.target (naming_for d.core) o2 s2.areas t3.objects) where
+  -- the object of an area that there was at the start was made before it
+  made_before : (j o : ℕ) → j < length s1.areas → slice_get o2 j ≡ Some o → o < length t1.objects
+  made_before j o lt e =
+      let had = there_is o1 j (omega (arith, lt, both.many)) in
+      let same : Some had.0 ≡ Some o = sym (extends j had.0 had.1) ∙ e in
+      let is : had.0 ≡ o = cc in
+      subst (λ q. q < length t1.objects) is (both.made j had.0 had.1)
+
+  pub round_both : BothIn d.target (naming_for d.core) o2 (source.leave s1 s2).areas (target.leave t1 t3).objects
+  round_both = (objects_hold_areas (table_of d.target) (naming_for d.core)).block_ended o2 s2.areas t3.objects (length s1.areas) (length t1.objects) now made_before
+
+-- what has moved to where the body's block would have ended has moved to where it ends with the count
+pub round_moved : (d : Lowered) (next : ℕ) (o0 : Map) (s0 : State) (t0 : CState) (o1 : Map) (s1 : State) (t1 : CState) → Moved (program_in d) next o0 s0 t0 o1 s1 t1
+    → (o2 : Map) (s2 : State) (t2 : CState) → Moved (program_in d) next o0 s0 t0 o2 (source.leave s1 s2) (target.leave t1 t2)
+    → ((o : ℕ) → o < length t0.objects → OfNoArea o0 o → Same (metric_of d.target) (memory_of d.target) t0.objects t2.objects o)
+    → (counter : ℕ) → length t0.objects ≤ counter → (t3 : CState) → t3.frames ≡ t2.frames → length t1.objects ≤ length t3.objects → ((o : ℕ) → o ≢ counter → Same (metric_of d.target) (memory_of d.target) t2.objects t3.objects o)
+    → Moved (program_in d) next o0 s0 t0 o2 (source.leave s1 s2) (target.leave t1 t3)
+round_moved d next o0 s0 t0 o1 s1 t1 first o2 s2 t2 moved still counter since t3 frames more others = record {
+  extends = moved.extends;
+  live = moved.live;
+  count = omega (arith, first.count, more, ended.count);
+  same = λ o lt none.
+      same_twice (metric_of d.target) (memory_of d.target) t0.objects t3.objects (target.leave t1 t3).objects o
+      (same_twice (metric_of d.target) (memory_of d.target) t0.objects t2.objects t3.objects o (still o lt none) (others o (λ is. absurd (omega (arith, is, lt, since)))))
+      (ended.others o (omega (arith, lt, first.count)));
+  apart = moved.apart;
+  names = first.names;
+  callers = ap (λ (u : CState). u.frames.callers) same_frames ∙ moved.callers;
+  values = first.values;
+} where
   ended : Left (metric_of d.target) (memory_of d.target) t3.objects (length t1.objects) (target.leave t1 t3).objects
   ended = (lawful_in (table_of d.target)).leaves t3.objects (length t1.objects)
 
-  pub round_moved : Moved (program_in d) next o0 s0 t0 o2 (source.leave s1 s2) (target.leave t1 t3)
-  round_moved = record {
-    extends = moved.extends;
-    live = moved.live;
-    count = omega (arith, first.count, more, count, ended.count);
-    same = λ o lt none.
-        same_twice (metric_of d.target) (memory_of d.target) t0.objects t3.objects (target.leave t1 t3).objects o
-        (same_twice (metric_of d.target) (memory_of d.target) t0.objects t2.objects t3.objects o (still o lt none) (others o (λ is. absurd (omega (arith, is, lt, since)))))
-        (ended.others o (omega (arith, lt, first.count)));
-    apart = moved.apart;
-    names = first.names;
-    callers = ap (λ (f : _). f.callers) frames ∙ moved.callers;
-    values = first.values;
-  }
-
-  there_is : {A : Type 0} (xs : List A) (k : ℕ) → k < length xs → (x : A) × (slice_get xs k ≡ Some x)
-  there_is [] k lt = absurd (omega (arith, lt))
-  there_is (x ∷ xs) zero lt = (x, refl)
-  there_is (x ∷ xs) (suc k) lt = there_is xs k (omega (arith, lt))
-
-  -- the object of an area that there was at the turn's start was made before it
-  made_before : (j o : ℕ) → j < length s1.areas → slice_get o2 j ≡ Some o → o < length t1.objects
-  made_before j o lt e =
-      let had = there_is o1 j (omega (arith, lt, both1.many)) in
-      let same : Some had.0 ≡ Some o = sym (extends j had.0 had.1) ∙ e in
-      let is : had.0 ≡ o = cc in
-      subst (λ q. q < length t1.objects) is (both1.made j had.0 had.1)
-
-  pub round_both : BothIn d.target (naming_for d.core) o2 (source.leave s1 s2).areas (target.leave t1 t3).objects
-  round_both = (objects_hold_areas (table_of d.target) (naming_for d.core)).block_ended o2 s2.areas t3.objects (length s1.areas) (length t1.objects) written made_before
+  same_frames : (let u : CState = record t2 { frames = t3.frames } in u) ≡ t2
+  same_frames = ap (λ f. let u : CState = record { frames = f; objects = t2.objects } in u) frames

@@ -54,7 +54,7 @@ use Rattle.value_refinement.specs.Kept.{Kept}
 use Rattle.value_refinement.specs.Laws.{Numbered, running}
 use Rattle.value_refinement.specs.Related.{Related}
 use Rattle.value_refinement.proofs.Keeping.{kept_less, kept_twice, same_twice}
-use Rattle.value_refinement.proofs.Objects.{ObjectIs, Assigned, object_left, object_made, takes_object_with}
+use Rattle.value_refinement.proofs.Objects.{ObjectIs, Assigned, Declared, object_left, object_made, takes_object_with}
 use Rattle.value_refinement.proofs.Operands.{local_is_old}
 use Rattle.value_refinement.proofs.Running.{runs_first}
 use Rattle.value_refinement.proofs.Standings.{related_on}
@@ -276,3 +276,122 @@ module _ (d : Lowered) (at : Point) (number length_of : ℕ) (body : StmtsCore) 
             lasting = lasting_on;
             within_it = within_next.2;
           }
+
+      -- the whole turn, whatever is asked where the body fell through
+      module _ (is_last : Bool) (head : ℕ → ℕ → State → CState → Type 0) (m2 i2 : ℕ)
+          (falls : (v : State) (u : CState) → CameTo d inner.next h.came.more starts t1 v u → Known starts Falls v → (n : ℕ) (w : World)
+              → Follows d.skip (λ a x b y. Ended is_last head m2 i2 a (source.leave s1 x) b (target.leave t1 y)) 15 0 n (Finished Falls w v n) (λ j. running (within d at.scope) (closing (local_name number) more step) j w u)) where
+        abbrev Post : Flow → State → Control (Option CValue) → CState → Type 0
+        Post a x b y = Ended is_last head m2 i2 a (source.leave s1 x) b (target.leave t1 y)
+
+        broke_as : (last : Bool) (v : State) (u : CState) → Rel (source.leave s1 v) (target.leave t1 u) → Ended last head m2 i2 Broke (source.leave s1 v) Broke (target.leave t1 u)
+        broke_as true v u r = r
+        broke_as false v u r = r
+
+        back_as : (last : Bool) (value : Option Value) (result : Option CValue) (v : State) (u : CState) → Back value (source.leave s1 v) result (target.leave t1 u) → Ended last head m2 i2 (Returned value) (source.leave s1 v) (Returned result) (target.leave t1 u)
+        back_as true value result v u r = r
+        back_as false value result v u r = r
+
+        returns : (value : Option Value) (result : Option CValue) (v : State) (u : CState) → CameBack d inner.next h.came.more starts t1 entry value v result u → Back value (source.leave s1 v) result (target.leave t1 u)
+        returns value result v u c =
+            back_join d at.next at.next (omega arith) objects h.came.more s s1 (source.leave s1 v) t t1 (target.leave t1 u) h.came.moved entry value result
+            (left_back d at.next at.next (omega arith) h.came.more s1 t1 both_1 c.more v u (moved_unnamed d at.next number (Num (pos i)) typed.name.number_is h.came.more c.more s1 v t1 u c.moved) c.both entry h.scoped.frame.room value result c.given)
+
+        behind : (a : Flow) (v : State) (b : Control (Option CValue)) (u : CState) → StmtsDone d entry inner.next h.came.more starts t1 a v b u × Known starts a v
+            → (n : ℕ) (w : World) → Follows d.skip Post 15 0 n (Finished a w v n) (λ j. onward (running (within d at.scope) (closing (local_name number) more step)) b j w u)
+        behind Falls v Falls u k n w = falls v u k.0 k.1 n w
+        behind Broke v Broke u k n w = ends_here d.skip Post 15 n w Broke v Broke u (broke_as is_last v u (leaves_loop v u k.0))
+        behind (Returned value) v (Returned result) u k n w = ends_here d.skip Post 15 n w (Returned value) v (Returned result) u (back_as is_last value result v u (returns value result v u k.0))
+        behind Falls v Broke u k n w = absurd k.0
+        behind Falls v (Returned result) u k n w = absurd k.0
+        behind Broke v Falls u k n w = absurd k.0
+        behind Broke v (Returned result) u k n w = absurd k.0
+        behind (Returned value) v Falls u k n w = absurd k.0
+        behind (Returned value) v Broke u k n w = absurd k.0
+
+        turn_follows : (n : ℕ) (w : World) → Follows d.skip (Ended is_last head m2 i2) (0 + 15) 0 n (turn number source_body i n w s1) (λ j. turn_part j w t1)
+        turn_follows n w =
+            blocked d.skip Post (Ended is_last head m2 i2) source.leave target.leave s1 t1 15 0 n (source_body n w starts) (λ j. running (within d at.scope) turn_code j w t1) (λ a x b y r. r)
+            (as_is d.skip Post 15 0 n (source_body n w starts) (λ j. running (within d at.scope) turn_code j w t1) (λ j. after (running (within d at.scope) body_code j w t1) (onward (running (within d at.scope) (closing (local_name number) more step))))
+            (λ j. running_more (within d at.scope) body_code (closing (local_name number) more step) j w t1)
+            (finished d.skip (λ a v b u. StmtsDone d entry inner.next h.came.more starts t1 a v b u × Known starts a v) Post 15 15 0 n (source_body n w starts) (λ j. running (within d at.scope) body_code j w t1)
+            (onward (running (within d at.scope) (closing (local_name number) more step)))
+            (eased d.skip (λ a v b u. StmtsDone d entry inner.next h.came.more starts t1 a v b u × Known starts a v) 0 0 15 15 n (source_body n w starts) (λ j. running (within d at.scope) body_code j w t1) (omega arith) (omega arith)
+            (body_follows s1 t1 h.came h.scoped i h.object (below m i h.within_it) h.has h.free n w))
+            behind))
+
+    -- ---- the loop
+
+    scoped_on : (m i : ℕ) (s1 : State) (t1 : CState) → Head m i s1 t1 → (v : State) → Known (with_name number (Num (pos i)) s1) Falls v → Scoped d.core (inside d.proc at.scope entry) waiting (source.leave s1 v)
+    scoped_on m i s1 t1 h v known = left_scoped d.core d.proc entry waiting at.scope s1 h.scoped v (record { areas = known.0.areas; first = known.0.first; callers = known.0.callers }) known.1
+
+    each : (m i : ℕ) (s1 : State) (t1 : CState) → Head (suc m) i s1 t1 → (n : ℕ) (w : World) → Follows d.skip (Turned Rel Back (Head m (next i))) (0 + 15) 0 n (turn number source_body i n w s1) (λ j. turn_part j w t1)
+    each m i s1 t1 h n w = turn_follows (suc m) i s1 t1 h false Head m (next i) falls n w where
+      falls : (v : State) (u : CState) → CameTo d inner.next h.came.more (with_name number (Num (pos i)) s1) t1 v u → Known (with_name number (Num (pos i)) s1) Falls v → (n : ℕ) (w : World)
+          → Follows d.skip (λ a x b y. Ended false Head m (next i) a (source.leave s1 x) b (target.leave t1 y)) 15 0 n (Finished Falls w v n) (λ j. running (within d at.scope) (closing (local_name number) more step) j w u)
+      falls v u c known n w =
+          let within_next : Within m (next i) = goes_on m i h.within_it in
+          let small_next : next i < 2 ^ 16 = length_small (next i) (below m (next i) within_next) in
+          let here : ObjectIs (program_in d) u (local_name number) counter_scalar h.object (Some (pos i)) = still_counter (suc m) i s1 t1 h v u c in
+          let is : Converts (program_in d) u counter_scalar step (pos (next i)) = counts m i h.within_it u h.object here in
+          let r = goes_round (within d at.scope) (local_name number) more step w u h.object (Some (pos i)) here (next i) small_next is (tests (suc m) i h.within_it c.more u h.object (lasting_later (suc m) i s1 t1 h v u c) here) in
+          ends_within d.skip (λ a x b y. Ended false Head m (next i) a (source.leave s1 x) b (target.leave t1 y)) 2 15 n (omega arith) w Falls v Falls r.0 (λ j. running (within d at.scope) (closing (local_name number) more step) j w u)
+          (next_head (suc m) i s1 t1 h v u c w small_next (m, refl, within_next) is r.0 r.1.assigned (scoped_on (suc m) i s1 t1 h v known)) r.1.reaches
+
+    last : (i : ℕ) (s1 : State) (t1 : CState) → Head zero i s1 t1 → (n : ℕ) (w : World) → Follows d.skip (LastTurned Rel Back) (0 + 15) 0 n (turn number source_body i n w s1) (λ j. turn_part j w t1)
+    last i s1 t1 h n w = turn_follows zero i s1 t1 h true Head zero i falls n w where
+      falls : (v : State) (u : CState) → CameTo d inner.next h.came.more (with_name number (Num (pos i)) s1) t1 v u → Known (with_name number (Num (pos i)) s1) Falls v → (n : ℕ) (w : World)
+          → Follows d.skip (λ a x b y. Ended true Head zero i a (source.leave s1 x) b (target.leave t1 y)) 15 0 n (Finished Falls w v n) (λ j. running (within d at.scope) (closing (local_name number) more step) j w u)
+      falls v u c known n w =
+          let here : ObjectIs (program_in d) u (local_name number) counter_scalar h.object (Some (pos i)) = still_counter zero i s1 t1 h v u c in
+          ends_within d.skip (λ a x b y. Ended true Head zero i a (source.leave s1 x) b (target.leave t1 y)) 2 15 n (omega arith) w Falls v Broke u (λ j. running (within d at.scope) (closing (local_name number) more step) j w u)
+          (leaves_loop zero i s1 t1 h v u c)
+          (last_breaks (within d at.scope) (local_name number) more step w u (tests zero i h.within_it c.more u h.object (lasting_later zero i s1 t1 h v u c) here))
+
+    turn_lawful : Lawful turn_part
+    turn_lawful = exec_lawful (program_in d) d.functions d.lawful (Block (stmts_from turn_code))
+
+    rounds_follow : (m i n : ℕ) (w : World) (s1 : State) (t1 : CState) → Head m i s1 t1
+        → Follows d.skip (Same Rel Back) 0 0 n (counted m next i (turn number source_body) n w s1) (λ j. running (within d at.scope) (turns body_code more step (local_name number) ∷ []) j w t1)
+    rounds_follow m i n w s1 t1 h =
+        as_is d.skip (Same Rel Back) 0 0 n (counted m next i (turn number source_body) n w s1) (λ j. running (within d at.scope) (turns body_code more step (local_name number) ∷ []) j w t1) (λ j. forever turn_part j w t1)
+        (λ j. nothing_behind (forever turn_part j w t1) (running (within d at.scope) []) (λ k z u. refl))
+        (counted_follows d.skip Rel Back 0 next (turn number source_body) turn_part turn_lawful Head each last m i n w s1 t1 h)
+
+    -- from where the counter is declared, behind temporaries
+    module _ (t1 : CState) (kept : Kept (program_in d) from t t1) (m i : ℕ) (within_first : Within m i) (first : Expr) (gives : Converts (program_in d) t1 counter_scalar first (pos i))
+        (lasting : (w : World) (u : CState) → Declared (within d at.scope) w t1 number counter_scalar (Some (pos i)) u → Lasting objects (length t1.objects) u) where
+      number_low : number < from
+      number_low = let r : number < length d.proc.locals = slice_get_within d.proc.locals number (Ix length_of) typed.name.type in omega (arith, r, le)
+
+      both_t1 : BothIn d.target (naming_for d.core) objects s.areas t1.objects
+      both_t1 = both_made d objects s.areas t.objects t1.objects before.related.both kept.count kept.objects
+
+      module _ (w : World) (u : CState) (declared : Declared (within d at.scope) w t1 number counter_scalar (Some (pos i)) u) where
+        kept_number : Kept (program_in d) number t u
+        kept_number = kept_twice (program_in d) number number t t1 u (omega arith) (kept_less (program_in d) number from t t1 (omega (arith, number_low)) kept) declared.kept
+
+        first_head : Head m i s u
+        first_head = record {
+          came = record {
+            more = objects;
+            moved = kept_moved (program_in d) at.next number (omega (arith, typed.name.number_is)) objects s t u kept_number;
+            both = both_made d objects s.areas t1.objects u.objects both_t1 declared.kept.count declared.kept.objects;
+          };
+          scoped = before.scoped;
+          object = length t1.objects;
+          has = declared.object;
+          made = object_made (program_in d) u (local_name number) counter_scalar (length t1.objects) (Some (pos i)) declared.object;
+          since = kept.count;
+          free = next_is_free d objects s.areas t1.objects t1.objects both_t1;
+          lasting = lasting w u declared;
+          within_it = within_first;
+        }
+
+      pub loop_follows : (n : ℕ) (w : World)
+          → Follows d.skip (Same Rel Back) 0 0 n (tick (counted m next i (turn number source_body)) n w s) (λ j. running (within d at.scope) (counter (local_name number) first ∷ turns body_code more step (local_name number) ∷ []) j w t1)
+      loop_follows n w =
+          let rest : List Stmt = turns body_code more step (local_name number) ∷ [] in
+          let o = takes_object_with (within d at.scope) w t1 number counter_scalar first (pos i) gives (counter_holds (table_of d.target) i (length_small i (below m i within_first))) in
+          pays_to d.skip (Same Rel Back) 1 1 0 0 0 (counted m next i (turn number source_body)) w s (omega arith) (omega arith) (λ j. running (within d at.scope) (counter (local_name number) first ∷ rest) j w t1) (λ j. running (within d at.scope) rest j w o.0)
+          (runs_first (within d at.scope) 1 (counter (local_name number) first) rest w t1 o.0 o.1) (λ k. rounds_follow m i k w s o.0 (first_head w o.0 o.2)) n

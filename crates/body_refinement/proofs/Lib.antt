@@ -4,3 +4,4 @@ pub mod Counters
 pub mod Turns
 pub mod Rounds
 pub mod Loops
+pub mod Counting

@@ -99,7 +99,7 @@ module _ (d : Lowered) (at : Point) (number length_of : ℕ) (body : StmtsCore) 
   earlier : (y : ℕ) → Contains at.scope y → y < number
   earlier y among = let lt = place.before y among in omega (arith, lt, typed.name.number_is)
 
-  length_small : (i : ℕ) → i < length_of → i < 2 ^ 16
+  pub length_small : (i : ℕ) → i < length_of → i < 2 ^ 16
   length_small i lt = let h : length_of ≤ 65535 = short length_of typed.in_range in omega (arith, lt, h) where
     short : (n : ℕ) → IsTrue (is_length n) → n ≤ 65535
     short n h = grind (arith)
@@ -359,17 +359,17 @@ module _ (d : Lowered) (at : Point) (number length_of : ℕ) (body : StmtsCore) 
         (counted_follows d.skip Rel Back 0 next (turn number source_body) turn_part turn_lawful Head each last m i n w s1 t1 h)
 
     -- from where the counter is declared, behind temporaries
-    module _ (t1 : CState) (kept : Kept (program_in d) from t t1) (m i : ℕ) (within_first : Within m i) (first : Expr) (gives : Converts (program_in d) t1 counter_scalar first (pos i))
+    module _ (k : ℕ) (low : length d.proc.locals ≤ k) (t1 : CState) (kept : Kept (program_in d) k t t1) (m i : ℕ) (within_first : Within m i) (first : Expr) (gives : Converts (program_in d) t1 counter_scalar first (pos i))
         (lasting : (w : World) (u : CState) → Declared (within d at.scope) w t1 number counter_scalar (Some (pos i)) u → Lasting objects (length t1.objects) u) where
-      number_low : number < from
-      number_low = let r : number < length d.proc.locals = slice_get_within d.proc.locals number (Ix length_of) typed.name.type in omega (arith, r, le)
+      number_low : number < k
+      number_low = let r : number < length d.proc.locals = slice_get_within d.proc.locals number (Ix length_of) typed.name.type in omega (arith, r, low)
 
       both_t1 : BothIn d.target (naming_for d.core) objects s.areas t1.objects
       both_t1 = both_made d objects s.areas t.objects t1.objects before.related.both kept.count kept.objects
 
       module _ (w : World) (u : CState) (declared : Declared (within d at.scope) w t1 number counter_scalar (Some (pos i)) u) where
         kept_number : Kept (program_in d) number t u
-        kept_number = kept_twice (program_in d) number number t t1 u (omega arith) (kept_less (program_in d) number from t t1 (omega (arith, number_low)) kept) declared.kept
+        kept_number = kept_twice (program_in d) number number t t1 u (omega arith) (kept_less (program_in d) number k t t1 (omega (arith, number_low)) kept) declared.kept
 
         first_head : Head m i s u
         first_head = record {

@@ -1,4 +1,4 @@
-ghost use Rattle.body_refinement.specs.Laws.{DowntosFollow, MapsFollow, StatementsFollow, UptosFollow};
+ghost use Rattle.body_refinement.specs.Laws.{DowntosFollow, MapsFollow, StatementsFollow};
 
 /// Where calls follow, so does the C of all statements: the steps of each side allow those of the other, both stop at the same check, and
 /// what they leave is related again.
@@ -11,12 +11,7 @@ pub fn maps_follow()
     ensures { MapsFollow }
 {}
 
-/// So does that of a loop from 0 up to a bound.
-pub fn uptos_follow()
-    ensures { UptosFollow }
-{}
-
-/// And that of a loop from a bound down to 0.
+/// So does that of a loop from a bound down to 0.
 pub fn downtos_follow()
     ensures { DowntosFollow }
 {}

@@ -1,7 +1,13 @@
+pub mod Blocks
+pub mod Choosing
 pub mod Coming
-pub mod Places
 pub mod Counters
-pub mod Turns
-pub mod Rounds
-pub mod Loops
 pub mod Counting
+pub mod Giving
+pub mod Growing
+pub mod Loops
+pub mod Places
+pub mod Rounds
+pub mod Simple
+pub mod Statements
+pub mod Turns

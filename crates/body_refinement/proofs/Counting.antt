@@ -162,7 +162,7 @@ module _ (d : Lowered) (at : Point) (number length_of : ℕ) (body : StmtsCore) 
   module _ (last_piece : Expr) (last : ℕ) (last_lt : last < length_of) (Lasting : Map → ℕ → CState → Type 0)
       (in_body : (o : ℕ) (more_objects : Map) (s1 : State) (t1 : CState) → o < length t1.objects → Lasting more_objects o t1 → (s2 : State) (t2 : CState) (came : CameTo d (suc at.next) more_objects s1 t1 s2 t2) → Lasting came.more o t2)
       (in_turn : (o : ℕ) (o1 o2 : Map) (t1 t2 : CState) → t2.frames.own ≡ t1.frames.own
-          → ((q : ℕ) → q < length t1.objects → OfNoArea o1 q → q ≢ o → SameObject (metric_of d.target) (memory_of d.target) t1.objects t2.objects q × OfNoArea o2 q) → Lasting o1 o t1 → Lasting o2 o t2)
+      → ((q : ℕ) → q < length t1.objects → OfNoArea o1 q → q ≢ o → SameObject (metric_of d.target) (memory_of d.target) t1.objects t2.objects q × OfNoArea o2 q) → Lasting o1 o t1 → Lasting o2 o t2)
       (held : (os : Map) (o : ℕ) (u : CState) → Lasting os o u → IsHeld (program_in d) u last_piece (pos last)) where
     abbrev UpWithin : ℕ → ℕ → Type 0
     UpWithin m i = i + m ≡ last

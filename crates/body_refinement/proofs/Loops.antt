@@ -152,7 +152,7 @@ module _ (d : Lowered) (at : Point) (number length_of : ℕ) (body : StmtsCore) 
       (Lasting : Map → ℕ → CState → Type 0)
       (in_body : (o : ℕ) (more_objects : Map) (s1 : State) (t1 : CState) → o < length t1.objects → Lasting more_objects o t1 → (s2 : State) (t2 : CState) (came : CameTo d (suc at.next) more_objects s1 t1 s2 t2) → Lasting came.more o t2)
       (in_turn : (o : ℕ) (o1 o2 : Map) (t1 t2 : CState) → t2.frames.own ≡ t1.frames.own
-          → ((q : ℕ) → q < length t1.objects → OfNoArea o1 q → q ≢ o → SameObject (metric_of d.target) (memory_of d.target) t1.objects t2.objects q × OfNoArea o2 q) → Lasting o1 o t1 → Lasting o2 o t2)
+      → ((q : ℕ) → q < length t1.objects → OfNoArea o1 q → q ≢ o → SameObject (metric_of d.target) (memory_of d.target) t1.objects t2.objects q × OfNoArea o2 q) → Lasting o1 o t1 → Lasting o2 o t2)
       (tests : (m i : ℕ) → Within m i → (objects : Map) (u : CState) (o : ℕ) → Lasting objects o u → ObjectIs (program_in d) u (local_name number) counter_scalar o (Some (pos i)) → TestIs (program_in d) u more (is_more m))
       (counts : (m i : ℕ) → Within (suc m) i → (u : CState) (o : ℕ) → ObjectIs (program_in d) u (local_name number) counter_scalar o (Some (pos i)) → Converts (program_in d) u counter_scalar step (pos (next i))) where
     -- before a turn of count i, behind which m turns come
@@ -280,7 +280,7 @@ module _ (d : Lowered) (at : Point) (number length_of : ℕ) (body : StmtsCore) 
       -- the whole turn, whatever is asked where the body fell through
       module _ (is_last : Bool) (head : ℕ → ℕ → State → CState → Type 0) (m2 i2 : ℕ)
           (falls : (v : State) (u : CState) → CameTo d inner.next h.came.more starts t1 v u → Known starts Falls v → (n : ℕ) (w : World)
-              → Follows d.skip (λ a x b y. Ended is_last head m2 i2 a (source.leave s1 x) b (target.leave t1 y)) 15 0 n (Finished Falls w v n) (λ j. running (within d at.scope) (closing (local_name number) more step) j w u)) where
+          → Follows d.skip (λ a x b y. Ended is_last head m2 i2 a (source.leave s1 x) b (target.leave t1 y)) 15 0 n (Finished Falls w v n) (λ j. running (within d at.scope) (closing (local_name number) more step) j w u)) where
         abbrev Post : Flow → State → Control (Option CValue) → CState → Type 0
         Post a x b y = Ended is_last head m2 i2 a (source.leave s1 x) b (target.leave t1 y)
 

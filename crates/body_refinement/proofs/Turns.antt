@@ -97,11 +97,13 @@ module _ (g : Setting) (x : Name) (more step : Expr) (w : World) (t : CState) wh
 
     pub goes_round : TestIs g.program t more true → (u : CState) × Counted u
     goes_round tests =
-        let a = takes_assign g w t x counter_scalar o value counter step (pos n) is (counter_holds (table_of g.program.target) n small) in
-        (a.0, record {
-          reaches =
-              reaches_more 1 1 w (λ j. running g (closing x more step) j w t) (λ j. running g (Assign (Var x) step ∷ []) j w t) (λ j. running g [] j w a.0)
-              (runs_first g 1 (unless_left more) (Assign (Var x) step ∷ []) w t t (leaves true tests 0 Falls (takes_give Falls w t)))
-              (runs_first g 1 (Assign (Var x) step) [] w t a.0 a.1);
-          assigned = a.2;
-        })
+        let a = takes_assign g w t x counter_scalar o value counter step (pos n) is (counter_holds (table_of g.program.target) n small) in (
+          a.0,
+          record {
+            reaches =
+                reaches_more 1 1 w (λ j. running g (closing x more step) j w t) (λ j. running g (Assign (Var x) step ∷ []) j w t) (λ j. running g [] j w a.0)
+                (runs_first g 1 (unless_left more) (Assign (Var x) step ∷ []) w t t (leaves true tests 0 Falls (takes_give Falls w t)))
+                (runs_first g 1 (Assign (Var x) step) [] w t a.0 a.1);
+            assigned = a.2;
+          },
+        )

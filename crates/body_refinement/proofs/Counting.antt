@@ -1,5 +1,5 @@
 -- The three loops that count: over all indices of a length, from 0 up to a bound, and from a bound down to 0.
-use Rattle.std.proofs.Common.{◌≡◌, ℕ, zero, suc, pred, ◌+◌, ◌-◌, ◌<◌, ◌≤◌, ◌^◌, ℤ, pos, negsuc, Bool, true, false, List, [], ◌∷◌, ◌++◌, length, Option, Some, None, Ok, refl, sym, ◌∙◌, ap, subst, arith, append_assoc}
+use Rattle.std.proofs.Common.{◌≡◌, ℕ, zero, suc, pred, ◌+◌, ◌-◌, ◌<◌, ◌≤◌, ◌^◌, ℤ, pos, negsuc, false, List, [], ◌++◌, length, Option, Some, None, refl, sym, ap, subst, arith, append_assoc}
 use Rattle.std.specs.Prelude.{not, unsigned_abs, IsTrue, ◌≢◌}
 use Rattle.std.specs.Ordering.{int_eq}
 use Rattle.std.proofs.lemmas.Int.{ints}
@@ -9,14 +9,12 @@ use Rattle.step_semantics.specs.Follows.{Follows}
 use Rattle.step_semantics.specs.Steps.{World, Part, bind, tick, ticks}
 use Rattle.step_semantics.proofs.Following.{weaker}
 use Rattle.index_types.specs.Indices.{is_index}
-use Rattle.area_types.specs.Syntax.{ValueType, Ix}
 use Rattle.area_types.specs.Tables.{is_length}
 use Rattle.source_types.specs.Values.{is_reference}
 use Rattle.core_tree.specs.Checks.{expr_checks, stmt_checks, stmts_checks}
-use Rattle.core_tree.specs.Environments.{Point, after, named_by, within_loop}
-use Rattle.core_tree.specs.Syntax.{ExprCore, StmtCore, StmtsCore, Map as Indices, Upto, Downto, type_of}
+use Rattle.core_tree.specs.Environments.{Point, named_by, within_loop}
+use Rattle.core_tree.specs.Syntax.{ExprCore, StmtCore, StmtsCore, Map as Indices, Downto, type_of}
 use Rattle.core_tree.specs.Types.{is_value}
-use Rattle.core_tree.specs.TypedExpressions.{HasType}
 use Rattle.core_tree.specs.TypedStatements.{StmtTyped, StmtsTyped, LoopTyped}
 use Rattle.core_meaning.specs.Checks.{on_number}
 use Rattle.core_meaning.specs.Conditions.{ensured}
@@ -49,7 +47,7 @@ use Rattle.lower_types.specs.Types.{scalar_for}
 use Rattle.lower_values.specs.Expressions.{raw}
 use Rattle.lower_values.specs.Frames.{allocated, is_object}
 use Rattle.lower_values.specs.Pieces.{Piece, paid}
-use Rattle.lower_statements.specs.Loops.{counter, turns, counting_to, counting_down}
+use Rattle.lower_statements.specs.Loops.{counting_to, counting_down}
 use Rattle.lower_statements.specs.Statements.{stmt_body, stmts_body}
 use Rattle.form_answers.specs.Standing.{Converts, TestIs, Stands}
 use Rattle.form_answers.proofs.Naturals.{plain_held}
@@ -71,7 +69,7 @@ use Rattle.body_refinement.specs.Kinds.{KindsAre, AllKindsAre}
 use Rattle.body_refinement.specs.Laws.{MapsFollow, DowntosFollow}
 use Rattle.body_refinement.specs.Statements.{CameTo, CameBack, CameWith, StmtDone, Before, StmtsFollow}
 use Rattle.body_refinement.proofs.Coming.{set_in, stage_in, came_with}
-use Rattle.body_refinement.proofs.Counters.{counter_scalar, counter_holds, tests_last, tests_nought, counts_up, counts_down}
+use Rattle.body_refinement.proofs.Counters.{counter_scalar, tests_last, tests_nought, counts_up, counts_down}
 use Rattle.body_refinement.proofs.Loops.{is_more, length_small, loop_follows}
 
 -- ---- numbers

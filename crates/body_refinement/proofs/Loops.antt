@@ -1,20 +1,19 @@
 -- Loops that count, where their bodies follow: the counter's declaration takes the loop's own step, and each turn of the source is a block of C
 -- that is left after the test and the count. What differs from loop to loop is given: the numbers, the test, the count, and what they need.
-use Rattle.std.proofs.Common.{Contains, ◌≡◌, ◌≢◌, ℕ, zero, suc, ◌+◌, ◌<◌, ◌≤◌, ◌^◌, ℤ, pos, Bool, true, false, List, [], ◌∷◌, ◌++◌, length, Option, Some, None, refl, sym, ◌∙◌, ap, subst, arith}
-use Rattle.std.specs.Prelude.{slice_get, IsTrue, take}
+use Rattle.std.proofs.Common.{Contains, ◌≡◌, ◌≢◌, ℕ, zero, suc, ◌+◌, ◌<◌, ◌≤◌, ◌^◌, pos, Bool, true, false, List, [], ◌∷◌, ◌++◌, length, Option, Some, refl, sym, ◌∙◌, ap, subst, arith}
+use Rattle.std.specs.Prelude.{slice_get, IsTrue}
 use Rattle.std.proofs.iter.runs.Lists.{slice_get_within}
 use Rattle.step_semantics.specs.Alike.{Same, Turned, LastTurned}
 use Rattle.step_semantics.specs.Control.{Control, Falls, Broke, Returned, onward, forever, counted}
 use Rattle.step_semantics.specs.Follows.{Follows}
 use Rattle.step_semantics.specs.Lawful.{Lawful}
-use Rattle.step_semantics.specs.Safe.{Safe}
-use Rattle.step_semantics.specs.Steps.{World, Progress, Finished, Halted, Exhausted, Part, after, tick, block}
+use Rattle.step_semantics.specs.Safe.{HasMeaning}
+use Rattle.step_semantics.specs.Steps.{World, Finished, Part, after, tick, block}
 use Rattle.step_semantics.proofs.CountedFollows.{counted_follows}
-use Rattle.step_semantics.proofs.Following.{as_is, blocked, eased, finished, weaker}
+use Rattle.step_semantics.proofs.Following.{as_is, blocked, eased, finished, kept}
 use Rattle.step_semantics.proofs.Paying.{pays_to}
 use Rattle.area_types.specs.Syntax.{Ix}
 use Rattle.area_types.specs.Tables.{is_length}
-use Rattle.area_types.proofs.Truths.{is_at_most}
 use Rattle.core_tree.specs.Checks.{stmts_checks}
 use Rattle.core_tree.specs.Environments.{Point, within_loop}
 use Rattle.core_tree.specs.Syntax.{StmtsCore}
@@ -25,7 +24,6 @@ use Rattle.core_meaning.specs.State.{State, with_name}
 use Rattle.core_meaning.specs.Statements.{Flow, turn, exec_all}
 use Rattle.core_meaning.specs.Values.{Value, Num}
 use Rattle.c_memory.specs.Abstract.{Same as SameObject}
-use Rattle.c_ast.specs.declared.CBase.TheVariants as base
 use Rattle.c_ast.specs.Names.{named}
 use Rattle.c_ast.specs.Scalars.{metric_of}
 use Rattle.c_ast.specs.Syntax.{Expr, Stmt, Block}
@@ -49,7 +47,7 @@ use Rattle.lower_types.specs.Names.{local_name}
 use Rattle.lower_values.specs.Frames.{allocated, is_object, name_of}
 use Rattle.lower_statements.specs.Loops.{counter, turns}
 use Rattle.lower_statements.specs.Statements.{stmts_body}
-use Rattle.form_answers.specs.Standing.{Converts, HasScalar, TestIs}
+use Rattle.form_answers.specs.Standing.{Converts, TestIs}
 use Rattle.value_refinement.specs.Kept.{Kept}
 use Rattle.value_refinement.specs.Laws.{Numbered, running}
 use Rattle.value_refinement.specs.Related.{Related}
@@ -57,7 +55,6 @@ use Rattle.value_refinement.proofs.Keeping.{kept_less, kept_twice, same_twice}
 use Rattle.value_refinement.proofs.Objects.{ObjectIs, Assigned, Declared, object_left, object_made, takes_object_with}
 use Rattle.value_refinement.proofs.Operands.{local_is_old}
 use Rattle.value_refinement.proofs.Running.{runs_first}
-use Rattle.value_refinement.proofs.Standings.{related_on}
 use Rattle.lowered_surroundings.specs.Surroundings.{naming_for}
 use Rattle.statement_refinement.specs.Apart.{OfNoArea, IsApart, CountersApart}
 use Rattle.statement_refinement.specs.Moves.{Moved}
@@ -66,23 +63,17 @@ use Rattle.statement_refinement.proofs.Movements.{moves_join}
 use Rattle.body_refinement.specs.Bodies.{Lowered, env_in, frame_in, home_in, program_in, within}
 use Rattle.body_refinement.specs.Kinds.{AllKindsAre}
 use Rattle.body_refinement.specs.Statements.{CameTo, CameBack, StmtsDone, Before, StmtsFollow}
-use Rattle.body_refinement.proofs.Coming.{set_in, scope_before, came_join, back_join, left_moved, left_came, left_back, kept_moved}
+use Rattle.body_refinement.proofs.Choosing.{nothing_after}
+use Rattle.body_refinement.proofs.Coming.{scope_before, came_join, back_join, left_moved, left_came, left_back, kept_moved}
 use Rattle.body_refinement.proofs.Counters.{counter_scalar, counter_holds, counter_read}
 use Rattle.body_refinement.proofs.Places.{place_named, params_before, local_named}
 use Rattle.body_refinement.proofs.Rounds.{related_named, apart_named, moved_unnamed, both_counted, both_made, next_is_free, round_moved, round_both}
-use Rattle.body_refinement.proofs.Turns.{follows_safely, ends_within, ends_here, running_more, closing, last_breaks, goes_round}
+use Rattle.body_refinement.proofs.Turns.{ends_within, ends_here, running_more, closing, last_breaks, goes_round}
 
 -- whether more turns come behind one
 abbrev pub is_more : ℕ → Bool
 is_more zero = false
 is_more (suc m) = true
-
-nothing_behind : {S V : Type 0} (r : Progress S (Control V)) (rest : Part S (Control V)) → ((n : ℕ) (w : World) (s : S) → rest n w s ≡ Finished Falls w s n) → after r (onward rest) ≡ r
-nothing_behind (Finished Falls w s n) rest h = h n w s
-nothing_behind (Finished Broke w s n) rest h = refl
-nothing_behind (Finished (Returned v) w s n) rest h = refl
-nothing_behind (Halted how w seen) rest h = refl
-nothing_behind (Exhausted w) rest h = refl
 
 module _ (d : Lowered) (at : Point) (number length_of : ℕ) (body : StmtsCore) (place : PlaceIn d.proc at) (typed : LoopTyped (env_in d) at number length_of) (body_typed : StmtsTyped (env_in d) (within_loop number at) body)
     (value : is_object (frame_in d) number ≡ false) (kinds : AllKindsAre (allocated d.proc.body) body) (small : Numbered (stmts_checks body)) (follows : StmtsFollow d (within_loop number at) body)
@@ -139,10 +130,10 @@ module _ (d : Lowered) (at : Point) (number length_of : ℕ) (body : StmtsCore) 
         → Follows d.skip (λ a v b u. StmtsDone d entry inner.next came.more begun t1 a v b u × Known begun a v) 0 0 n (exec_all d.core (calls_before d.core d.number) (ensured d.core d.proc) body n w begun)
         (λ j. running (within d at.scope) (stmts_body (frame_in d) (home_in d) body from).stmts j w t1)
     body_follows n w =
-        follows_safely d.skip (StmtsDone d entry inner.next came.more begun t1) (Known begun) 0 0 n (exec_all d.core (calls_before d.core d.number) (ensured d.core d.proc) body n w begun)
+        kept d.skip HasMeaning (StmtsDone d entry inner.next came.more begun t1) (Known begun) 0 0 n (exec_all d.core (calls_before d.core d.number) (ensured d.core d.proc) body n w begun)
         (λ j. running (within d at.scope) (stmts_body (frame_in d) (home_in d) body from).stmts j w t1)
-        (follows inner_place body_typed kinds small entry waiting came.more begun t1 before_body from le n w)
         (stmts_last d.core d.valid d.number d.proc d.is entry waiting inner inner_place begun begun_scoped body body_typed n w)
+        (follows inner_place body_typed kinds small entry waiting came.more begun t1 before_body from le n w)
 
   -- ---- what differs from loop to loop
 
@@ -355,21 +346,21 @@ module _ (d : Lowered) (at : Point) (number length_of : ℕ) (body : StmtsCore) 
         → Follows d.skip (Same Rel Back) 0 0 n (counted m next i (turn number source_body) n w s1) (λ j. running (within d at.scope) (turns body_code more step (local_name number) ∷ []) j w t1)
     rounds_follow m i n w s1 t1 h =
         as_is d.skip (Same Rel Back) 0 0 n (counted m next i (turn number source_body) n w s1) (λ j. running (within d at.scope) (turns body_code more step (local_name number) ∷ []) j w t1) (λ j. forever turn_part j w t1)
-        (λ j. nothing_behind (forever turn_part j w t1) (running (within d at.scope) []) (λ k z u. refl))
+        (λ j. nothing_after (forever turn_part j w t1) (running (within d at.scope) []) (λ k z u. refl))
         (counted_follows d.skip Rel Back 0 next (turn number source_body) turn_part turn_lawful Head each last m i n w s1 t1 h)
 
     -- from where the counter is declared, behind temporaries
-    module _ (k : ℕ) (low : length d.proc.locals ≤ k) (t1 : CState) (kept : Kept (program_in d) k t t1) (m i : ℕ) (within_first : Within m i) (first : Expr) (gives : Converts (program_in d) t1 counter_scalar first (pos i))
+    module _ (k : ℕ) (low : length d.proc.locals ≤ k) (t1 : CState) (paid : Kept (program_in d) k t t1) (m i : ℕ) (within_first : Within m i) (first : Expr) (gives : Converts (program_in d) t1 counter_scalar first (pos i))
         (lasting : (w : World) (u : CState) → Declared (within d at.scope) w t1 number counter_scalar (Some (pos i)) u → Lasting objects (length t1.objects) u) where
       number_low : number < k
       number_low = let r : number < length d.proc.locals = slice_get_within d.proc.locals number (Ix length_of) typed.name.type in omega (arith, r, low)
 
       both_t1 : BothIn d.target (naming_for d.core) objects s.areas t1.objects
-      both_t1 = both_made d objects s.areas t.objects t1.objects before.related.both kept.count kept.objects
+      both_t1 = both_made d objects s.areas t.objects t1.objects before.related.both paid.count paid.objects
 
       module _ (w : World) (u : CState) (declared : Declared (within d at.scope) w t1 number counter_scalar (Some (pos i)) u) where
         kept_number : Kept (program_in d) number t u
-        kept_number = kept_twice (program_in d) number number t t1 u (omega arith) (kept_less (program_in d) number k t t1 (omega (arith, number_low)) kept) declared.kept
+        kept_number = kept_twice (program_in d) number number t t1 u (omega arith) (kept_less (program_in d) number k t t1 (omega (arith, number_low)) paid) declared.kept
 
         first_head : Head m i s u
         first_head = record {
@@ -382,7 +373,7 @@ module _ (d : Lowered) (at : Point) (number length_of : ℕ) (body : StmtsCore) 
           object = length t1.objects;
           has = declared.object;
           made = object_made (program_in d) u (local_name number) counter_scalar (length t1.objects) (Some (pos i)) declared.object;
-          since = kept.count;
+          since = paid.count;
           free = next_is_free d objects s.areas t1.objects t1.objects both_t1;
           lasting = lasting w u declared;
           within_it = within_first;

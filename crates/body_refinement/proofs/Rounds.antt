@@ -1,13 +1,13 @@
 -- States around the turns of a loop that counts: the name of the count, what the declaration of its counter keeps, and what both sides come to
 -- behind a turn that has counted.
-use Rattle.std.proofs.Common.{Contains, ◌≡◌, ◌≢◌, ◌⊎◌, ⊎_elim, inl, inr, ℕ, zero, suc, ◌<◌, ◌≤◌, ℤ, pos, Bool, true, false, List, [], ◌∷◌, length, Option, Some, None, refl, sym, ◌∙◌, ap, subst, arith}
+use Rattle.std.proofs.Common.{Contains, ◌≡◌, ◌≢◌, ◌⊎◌, ⊎_elim, inl, inr, ℕ, zero, suc, ◌<◌, ◌≤◌, pos, false, List, [], ◌∷◌, length, Some, refl, sym, ◌∙◌, ap, subst, arith}
 use Rattle.std.specs.Prelude.{slice_get, map, if◌then◌else◌}
 use Rattle.type_trees.specs.Values.{cells}
 use Rattle.area_types.specs.Syntax.{ValueType, Ix}
 use Rattle.c_memory.specs.Abstract.{Left, Same}
 use Rattle.c_ast.specs.Names.{named}
 use Rattle.c_ast.specs.Scalars.{metric_of}
-use Rattle.c_ast.specs.Syntax.{Read, Address, Var, At}
+use Rattle.c_ast.specs.Syntax.{Read, Address, Var}
 use Rattle.c_ast.specs.Targets.{table_of}
 use Rattle.c_meaning.specs.Memory.{CObjects, memory_of}
 use Rattle.c_meaning.specs.State as target
@@ -15,7 +15,7 @@ use Rattle.c_meaning.specs.State.{CState}
 use Rattle.core_meaning.specs.Areas.{Area, Areas}
 use Rattle.core_meaning.specs.State as source
 use Rattle.core_meaning.specs.State.{State, value_of, with_name}
-use Rattle.core_meaning.specs.Values.{Value, Num, Ref}
+use Rattle.core_meaning.specs.Values.{Value, Num}
 use Rattle.area_objects.specs.Both.{Map, LiveIn}
 use Rattle.area_objects.specs.Holds.{CanHold, HoldsArea}
 use Rattle.area_objects.specs.PlaceLaws.{BothIn}

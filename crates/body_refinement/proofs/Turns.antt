@@ -1,19 +1,18 @@
 -- A turn of a loop that counts: the source's block and the block of C that ends with the test of the last turn and the count.
-use Rattle.std.proofs.Common.{Contains, ◌≡◌, ◌≢◌, ◌⊎◌, inl, inr, ℕ, zero, suc, ◌+◌, ◌<◌, ◌≤◌, ◌^◌, ℤ, pos, Bool, true, false, List, [], ◌∷◌, ◌++◌, length, Option, Some, None, refl, sym, ◌∙◌, ap, subst, arith}
-use Rattle.std.specs.Prelude.{slice_get, not, IsTrue, if◌then◌else◌}
+use Rattle.std.proofs.Common.{◌≡◌, ℕ, zero, suc, ◌+◌, ◌<◌, ◌≤◌, ◌^◌, ℤ, pos, Bool, true, false, List, [], ◌∷◌, ◌++◌, Option, refl, ◌∙◌, ap, arith}
+use Rattle.std.specs.Prelude.{not, if◌then◌else◌}
 use Rattle.step_semantics.specs.Control.{Control, Falls, Broke, Returned, onward}
 use Rattle.step_semantics.specs.Follows.{Follows}
-use Rattle.step_semantics.specs.Safe.{Safe}
-use Rattle.step_semantics.specs.Steps.{World, Progress, Finished, Halted, Exhausted, FailedCheck, MissingReply, UnfitReply, NoMeaning, Part, give, after, tick, left, block}
+use Rattle.step_semantics.specs.Steps.{World, Progress, Finished, Halted, Exhausted, Part, give, after, tick, block}
 use Rattle.step_semantics.specs.Takes.{Takes, Reaches}
 use Rattle.step_semantics.proofs.Following.{eased, rests}
 use Rattle.step_semantics.proofs.Leading.{leads_free}
 use Rattle.step_semantics.proofs.Paying.{reaches_more, takes_bind, takes_give, takes_tick}
 use Rattle.c_ast.specs.declared.CUnary.TheVariants.{Not}
-use Rattle.c_ast.specs.Syntax.{Name, Expr, Var, Unary, Stmt, Stmts, Assign, If, Break, Cons, Nil}
+use Rattle.c_ast.specs.Syntax.{Name, Expr, Var, Unary, Stmt, Assign, Break, Cons, Nil}
 use Rattle.c_ast.specs.Targets.{table_of}
 use Rattle.c_meaning.specs.Expressions.{eval}
-use Rattle.c_meaning.specs.State.{Program, CState, leave}
+use Rattle.c_meaning.specs.State.{CState, leave}
 use Rattle.c_meaning.specs.Statements.{exec, exec_all}
 use Rattle.c_meaning.specs.Values.{CValue, is_true, on_ok}
 use Rattle.lower_statements.specs.Loops.{unless_left}
@@ -21,21 +20,12 @@ use Rattle.form_answers.specs.Standing.{Converts, TestIs}
 use Rattle.value_refinement.specs.Laws.{running}
 use Rattle.value_refinement.specs.Settings.{Setting}
 use Rattle.value_refinement.proofs.Objects.{ObjectIs, Assigned, takes_assign}
-use Rattle.value_refinement.proofs.Running.{runs_first, nothing_left, not_tests, takes_value, takes_one}
+use Rattle.value_refinement.proofs.Running.{runs_first, nothing_left, not_tests, takes_value}
 use Rattle.body_refinement.proofs.Counters.{counter_scalar, counter_holds}
 
--- ---- what follows, and what is known of the first alone
+-- ---- where the first has finished
 
 module _ {S T A B : Type 0} (excused : ℕ → Bool) where
-  pub follows_safely : (post : A → S → B → T → Type 0) (known : A → S → Type 0) (x y n : ℕ) (r : Progress S A) (f : ℕ → Progress T B) → Follows excused post x y n r f → Safe known r
-      → Follows excused (λ a s b t. post a s b t × known a s) x y n r f
-  follows_safely post known x y n (Finished a w s m) f h k = record { value = h.value; state = h.state; holds = (h.holds, k); leads = h.leads }
-  follows_safely post known x y n (Halted (NoMeaning reason) w seen) f h k = h
-  follows_safely post known x y n (Halted (FailedCheck site) w seen) f h k = h
-  follows_safely post known x y n (Halted MissingReply w seen) f h k = h
-  follows_safely post known x y n (Halted UnfitReply w seen) f h k = h
-  follows_safely post known x y n (Exhausted w) f h k = h
-
   -- the second comes to its end within its credit
   pub ends_within : (post : A → S → B → T → Type 0) (c x n : ℕ) → c ≤ x → (w : World) (a : A) (s : S) (b : B) (t : T) (f : ℕ → Progress T B) → post a s b t → Reaches c w f (λ k. Finished b w t k) → Follows excused post x 0 n (Finished a w s n) f
   ends_within post c x n le w a s b t f h r = record { value = b; state = t; holds = h; leads = leads_free x 0 n f (λ k. Finished b w t k) (λ k. (c + k, omega arith, omega (arith, le), r.comes k)) }

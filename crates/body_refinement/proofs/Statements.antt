@@ -28,9 +28,13 @@ use Rattle.value_refinement.specs.Laws.{running}
 use Rattle.value_refinement.proofs.Given.{first_checks, last_checks}
 use Rattle.body_refinement.specs.Bodies.{Lowered, env_in, frame_in, home_in, program_in, within}
 use Rattle.body_refinement.specs.Kinds.{KindsAre, AllKindsAre}
-use Rattle.body_refinement.specs.Laws.{AllocsFollow, CopiesFollow, ReturnsFollow, MapsFollow, UptosFollow, DowntosFollow, CallsFollow, StatementsFollow}
+use Rattle.body_refinement.specs.Laws.{OthersFollow, StatementsFollow}
 use Rattle.body_refinement.specs.Statements.{CameTo, CameWith, CameBack, StmtDone, StmtsDone, Before, StmtFollows, StmtsFollow}
 use Rattle.body_refinement.proofs.Blocks.{ifs_follow, if_elses_follow, breaks_follow, narrowed_follows, forever_follows_in}
+use Rattle.body_refinement.proofs.Allocs.{allocs_follow_all}
+use Rattle.body_refinement.proofs.Copies.{copies_follow}
+use Rattle.body_refinement.proofs.Counting.{map_follows, downto_follows}
+use Rattle.body_refinement.proofs.Returns.{returns_follow}
 use Rattle.body_refinement.proofs.Coming.{came_of, came_join, back_join, stayed}
 use Rattle.body_refinement.proofs.Growing.{stmt_grows}
 use Rattle.body_refinement.proofs.Places.{place_after, stmt_room}
@@ -105,23 +109,23 @@ none_follow d at placed typed kinds small entry waiting objects s t before from 
 
 -- ---- all of them
 
-module _ (d : Lowered) (calls : CallsFollow d) (allocs : AllocsFollow) (copies : CopiesFollow) (returns : ReturnsFollow) (maps : MapsFollow) (uptos : UptosFollow) (downtos : DowntosFollow) where
+module _ (d : Lowered) (others : OthersFollow d) where
   mutual
     stmt_follows : (c : StmtCore) (at : Point) → StmtFollows d at c
     stmt_follows (Let x e) at = lets_follow_in d at x e
-    stmt_follows (LetCall x c) at = calls.named at x c
-    stmt_follows (Alloc x area init) at = allocs d at x area init
+    stmt_follows (LetCall x c) at = others.named_call at x c
+    stmt_follows (Alloc x area init) at = allocs_follow_all d at x area init
     stmt_follows (Store target value) at = stores_follow_in d at target value
-    stmt_follows (Copy target source) at = copies d at target source
-    stmt_follows (Call c) at = calls.done at c
+    stmt_follows (Copy target source) at = copies_follow d at target source
+    stmt_follows (Call c) at = others.call at c
     stmt_follows (If e a) at = ifs_follow d at e a (stmts_follow a at)
     stmt_follows (IfElse e a b) at = if_elses_follow d at e a b (stmts_follow a at) (stmts_follow b (skipping _ at))
-    stmt_follows (Map x n a) at = maps d at x n a (stmts_follow a (within_loop x at))
-    stmt_follows (Upto x n e a) at = uptos d at x n e a (stmts_follow a (within_loop x at))
-    stmt_follows (Downto x n e a) at = downtos d at x n e a (stmts_follow a (within_loop x at))
+    stmt_follows (Map x n a) at = map_follows d at x n a (stmts_follow a (within_loop x at))
+    stmt_follows (Upto x n e a) at = others.upto at x n e a (stmts_follow a (within_loop x at))
+    stmt_follows (Downto x n e a) at = downto_follows d at x n e a (stmts_follow a (within_loop x at))
     stmt_follows (Forever a) at = forever_follows_in d at a (stmts_follow a (looping at))
     stmt_follows Break at = breaks_follow d at
-    stmt_follows (Return value) at = returns d at value
+    stmt_follows (Return value) at = returns_follow d at value
     stmt_follows (Assert e check) at = asserts_follow_in d at e check
     stmt_follows (NoAlloc a) at = λ placed typed kinds small entry waiting objects s t before from low n w. narrowed_follows d at _ a (NoAlloc a) refl (stmts_follow a _) placed typed kinds small entry waiting objects s t before from low n w
     stmt_follows (NoBreak a) at = λ placed typed kinds small entry waiting objects s t before from low n w. narrowed_follows d at _ a (NoBreak a) refl (stmts_follow a _) placed typed kinds small entry waiting objects s t before from low n w
@@ -130,3 +134,6 @@ module _ (d : Lowered) (calls : CallsFollow d) (allocs : AllocsFollow) (copies :
     pub stmts_follow : (ss : StmtsCore) (at : Point) → StmtsFollow d at ss
     stmts_follow NoStmts at = none_follow d at
     stmts_follow (MoreStmts c ss) at = more_follow d at c ss (stmt_follows c at) (stmts_follow ss (place.after c at))
+
+pub statements_follow : StatementsFollow
+statements_follow d others at ss = stmts_follow d others ss at

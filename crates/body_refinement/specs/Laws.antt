@@ -23,9 +23,6 @@ ReturnsFollow = (d : Lowered) (at : Point) (value : Option ExprCore) → StmtFol
 abbrev pub MapsFollow : Type 0
 MapsFollow = (d : Lowered) (at : Point) (number length : ℕ) (body : StmtsCore) → StmtsFollow d (within_loop number at) body → StmtFollows d at (Map number length body)
 
-abbrev pub UptosFollow : Type 0
-UptosFollow = (d : Lowered) (at : Point) (number length : ℕ) (bound : ExprCore) (body : StmtsCore) → StmtsFollow d (within_loop number at) body → StmtFollows d at (Upto number length bound body)
-
 abbrev pub DowntosFollow : Type 0
 DowntosFollow = (d : Lowered) (at : Point) (number length : ℕ) (bound : ExprCore) (body : StmtsCore) → StmtsFollow d (within_loop number at) body → StmtFollows d at (Downto number length bound body)
 
@@ -37,10 +34,11 @@ KindsAreKnown = (core : ModuleCore) → ValidCore core → (k : ℕ) (p : ProcCo
 
 -- ---- all of them
 
--- what is asked of calls
-pub record CallsFollow (d : Lowered) : Type 0 where
-  pub done : (at : Point) (c : CallCore) → StmtFollows d at (Call c)
-  pub named : (at : Point) (number : ℕ) (c : CallCore) → StmtFollows d at (LetCall number c)
+-- what is asked of the forms that have no law of their own: calls, and loops up to a bound
+pub record OthersFollow (d : Lowered) : Type 0 where
+  pub call : (at : Point) (c : CallCore) → StmtFollows d at (Call c)
+  pub named_call : (at : Point) (number : ℕ) (c : CallCore) → StmtFollows d at (LetCall number c)
+  pub upto : (at : Point) (number length : ℕ) (bound : ExprCore) (body : StmtsCore) → StmtsFollow d (within_loop number at) body → StmtFollows d at (Upto number length bound body)
 
 abbrev pub StatementsFollow : Type 0
-StatementsFollow = (d : Lowered) → CallsFollow d → (at : Point) (ss : StmtsCore) → StmtsFollow d at ss
+StatementsFollow = (d : Lowered) → OthersFollow d → (at : Point) (ss : StmtsCore) → StmtsFollow d at ss

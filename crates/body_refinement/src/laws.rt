@@ -1,4 +1,4 @@
-ghost use Rattle.body_refinement.specs.Laws.{AllocsFollow, CopiesFollow, ReturnsFollow, StatementsFollow};
+ghost use Rattle.body_refinement.specs.Laws.{AllocsFollow, CopiesFollow, DowntosFollow, MapsFollow, ReturnsFollow, StatementsFollow};
 
 /// The C of an `alloc` follows it, whatever its initializer: its expressions come first, and then the object that holds the first value.
 pub fn allocs_follow()
@@ -16,8 +16,18 @@ pub fn returns_follow()
     ensures { ReturnsFollow }
 {}
 
-/// Where calls follow, so does the C of all statements: the steps of each side allow those of the other, both stop at the same check, and
-/// what they leave is related again.
+/// The C of a loop over all indices of a length follows it, where its body follows.
+pub fn maps_follow()
+    ensures { MapsFollow }
+{}
+
+/// So does that of a loop from a bound down to 0.
+pub fn downtos_follow()
+    ensures { DowntosFollow }
+{}
+
+/// Where calls and loops up to a bound follow, so does the C of all statements: the steps of each side allow those of the other, both stop at
+/// the same check, and what they leave is related again.
 pub fn statements_follow()
     ensures { StatementsFollow }
 {}

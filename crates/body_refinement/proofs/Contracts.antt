@@ -124,12 +124,13 @@ module _ (d : Lowered) (scope : List ℕ) (outcome : Expr) (value : Option Value
 
 -- ---- the tests
 
-module _ (d : Lowered) (scope : List ℕ) (less : (m : ℕ) → Contains (below (length d.proc.params)) m → Contains scope m) (outcome : Expr) (value : Option Value) (n : ℕ) (set : Set (around d outcome value n)) (entry : Entry) (waiting : List Activation)
-    (objects : Map) (s : State) (u : CState) (scoped : Scoped d.core (inside d.proc scope entry) waiting s) (fits : ResultFits d.core entry s.areas d.proc.result value) (related : Related (within d scope) objects s u)
-    (result : (ty : ValueType) (v : Value) → d.proc.result ≡ Some ty → value ≡ Some v → NameStands (around d outcome value n) objects s.areas u ty outcome (At outcome) v) where
+-- the locals that have values are in `scope`, and the states are related for those of `names`
+module _ (d : Lowered) (scope names : List ℕ) (less : (m : ℕ) → Contains (below (length d.proc.params)) m → Contains scope m) (named : (m : ℕ) → Contains (below (length d.proc.params)) m → Contains names m) (outcome : Expr) (value : Option Value) (n : ℕ)
+    (set : Set (around d outcome value n)) (entry : Entry) (waiting : List Activation) (objects : Map) (s : State) (u : CState) (scoped : Scoped d.core (inside d.proc scope entry) waiting s) (fits : ResultFits d.core entry s.areas d.proc.result value)
+    (related : Related (within d names) objects s u) (result : (ty : ValueType) (v : Value) → d.proc.result ≡ Some ty → value ≡ Some v → NameStands (around d outcome value n) objects s.areas u ty outcome (At outcome) v) where
   pub ensures_go_on : (A : Type 0) (post : A → State → Control (Option CValue) → CState → Type 0) (go : Unit {0} → Part State A) (rest : List Stmt) (x y from : ℕ) → n ≤ from
-      → ((v : CState) → Kept (within d scope).program from u v → (m : ℕ) (w : World) → Follows d.skip post x y m (go tt m w s) (λ j. running (within d scope) rest j w v))
-      → (m : ℕ) (w : World) → Follows d.skip post x y m (bind (source.ensured d.core d.proc value) go m w s) (λ j. running (within d scope) ((contract_tests (record (frame_in d) { outcome = outcome }) (ensures_of d.proc) from).stmts ++ rest) j w u)
+      → ((v : CState) → Kept (within d names).program from u v → (m : ℕ) (w : World) → Follows d.skip post x y m (go tt m w s) (λ j. running (within d names) rest j w v))
+      → (m : ℕ) (w : World) → Follows d.skip post x y m (bind (source.ensured d.core d.proc value) go m w s) (λ j. running (within d names) ((contract_tests (record (frame_in d) { outcome = outcome }) (ensures_of d.proc) from).stmts ++ rest) j w u)
   ensures_go_on A post go rest x y from le next m w =
       contracts_go_on (around d outcome value n) set objects s (stage_around d scope outcome value n objects s u less entry waiting scoped fits) (ensures_of d.proc) (ensured_typed d) (ensured_small d) A post go rest x y from le u
-      (related_around d scope outcome value n objects s u less related result) next m w
+      (related_around d names outcome value n objects s u named related result) next m w

@@ -29,4 +29,5 @@ pub mod Rounds
 pub mod Simple
 pub mod Statements
 pub mod Turns
+pub mod Wholes
 pub mod Zeros

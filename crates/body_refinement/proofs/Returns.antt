@@ -168,7 +168,7 @@ module _ (d : Lowered) (at : Point) (place : PlaceIn d.proc at) (entry : Entry) 
         pays_to d.skip Post 1 1 0 1 0 (bind (source.ensured d.core d.proc None) (λ t. give (Returned None))) w s (omega arith) (omega arith) (λ j. running g (pad ∷ tests (x ∷ cs)) j w t) (λ j. running g (tests (x ∷ cs)) j w t)
         (runs_first g 1 pad (tests (x ∷ cs)) w t t (takes_pad g w t))
         (λ m. subst (λ ds. Follows d.skip Post 1 0 m (bind (source.ensured d.core d.proc None) (λ t. give (Returned None)) m w s) (λ j. running g (tests ds) j w t)) is
-        (ensures_go_on d at.scope place.parameters (c.Number 0 Plain) None from (plain_ensures_are_set d.core d.valid d.number d.proc d.is no_result d.skip d.target d.functions (below (length d.proc.params)) (c.Number 0 Plain) None from low) entry waiting objects s t before.scoped
+        (ensures_go_on d at.scope at.scope place.parameters place.parameters (c.Number 0 Plain) None from (plain_ensures_are_set d.core d.valid d.number d.proc d.is no_result d.skip d.target d.functions (below (length d.proc.params)) (c.Number 0 Plain) None from low) entry waiting objects s t before.scoped
         (subst (λ r. ResultFits d.core entry s.areas r None) (sym no_result) tt) before.related (λ ty v some has. let no : ⊥ = cc in absurd no) Flow Post (λ t. give (Returned None)) (c.Return None ∷ []) 1 0 from (omega arith)
         (λ u kept k z. returns_late None None u (came None None u kept nothing_given) (c.Return None ∷ []) (λ j q. gives_nothing d at.scope u j q) k z) m w)) n
 
@@ -243,7 +243,7 @@ module _ (d : Lowered) (at : Point) (place : PlaceIn d.proc at) (entry : Entry) 
           (pays_to d.skip Post 1 1 0 1 0 part w s (omega arith) (omega arith) (λ j. running g (keeper ∷ later cs) j w u) (λ j. running g (later cs) j w behind)
           (runs_first g 1 keeper (later cs) w u behind (takes_const g w u name (type_for (table_for d.core) wanted) p.value as_given.value as_given.held as_given.gives as_given.assigned))
           (λ q. subst (λ ds. Follows d.skip Post 1 0 q (part q w s) (λ j. running g (later ds) j w behind)) is
-          (ensures_go_on d at.scope place.parameters (Read (Var name)) (Some v) (suc i) (ensures_are_set d.core d.valid d.number d.proc d.is d.skip d.target d.functions (below (length d.proc.params)) (Some v) i (omega (arith, low, grows))) entry waiting objects s behind before.scoped fits
+          (ensures_go_on d at.scope at.scope place.parameters place.parameters (Read (Var name)) (Some v) (suc i) (ensures_are_set d.core d.valid d.number d.proc d.is d.skip d.target d.functions (below (length d.proc.params)) (Some v) i (omega (arith, low, grows))) entry waiting objects s behind before.scoped fits
           (related_in behind kept_behind) result_stands Flow Post (λ t. give (Returned (Some v))) (c.Return (Some (Read (Var name))) ∷ []) 1 0 (suc i) (omega arith) returned_late q w)) k)) m
 
     -- the forms of the two cases

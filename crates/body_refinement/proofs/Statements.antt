@@ -51,7 +51,7 @@ row_after (Exhausted w) first rest all h = refl
 
 module _ (d : Lowered) (scope : List ℕ) where
   -- what comes behind a row of statements
-  rows : (first rest : List Stmt) (j : ℕ) (w : World) (t : CState) → running (within d scope) (first ++ rest) j w t ≡ after (running (within d scope) first j w t) (onward (running (within d scope) rest))
+  pub rows : (first rest : List Stmt) (j : ℕ) (w : World) (t : CState) → running (within d scope) (first ++ rest) j w t ≡ after (running (within d scope) first j w t) (onward (running (within d scope) rest))
   rows [] rest j w t = refl
   rows (x ∷ first) rest j w t = row_after (target.exec (program_in d) d.functions x j w t) (running (within d scope) first) (running (within d scope) rest) (running (within d scope) (first ++ rest)) (λ k v u. rows first rest k v u)
 

@@ -7,7 +7,7 @@ use Rattle.core_tree.specs.Valid.{ValidCore}
 use Rattle.lower_values.specs.Frames.{allocated}
 use Rattle.body_refinement.specs.Bodies.{Lowered}
 use Rattle.body_refinement.specs.Kinds.{AllKindsAre}
-use Rattle.body_refinement.specs.Statements.{StmtFollows, StmtsFollow}
+use Rattle.body_refinement.specs.Statements.{StmtFollows, StmtsFollow, BodyFollows}
 
 abbrev pub AllocsFollow : Type 0
 AllocsFollow = (d : Lowered) (at : Point) (number : ℕ) (area : Area) (init : Option InitCore) → StmtFollows d at (Alloc number area init)
@@ -42,3 +42,6 @@ pub record OthersFollow (d : Lowered) : Type 0 where
 
 abbrev pub StatementsFollow : Type 0
 StatementsFollow = (d : Lowered) → OthersFollow d → (at : Point) (ss : StmtsCore) → StmtsFollow d at ss
+
+abbrev pub BodiesFollow : Type 0
+BodiesFollow = (d : Lowered) → OthersFollow d → BodyFollows d

@@ -1,8 +1,7 @@
 -- The states behind an `alloc`: a further area with a further object that holds it, and a name that stands for both.
-use Rattle.std.proofs.Common.{◌≡◌, ◌≢◌, ℕ, zero, suc, ◌<◌, ◌≤◌, ℤ, Bool, true, false, List, [], ◌∷◌, ◌++◌, length, map, Contains, Option, Some, None, Result, Ok, refl, sym, ◌∙◌, ap, subst, arith, ⊎_elim, inl, inr}
+use Rattle.std.proofs.Common.{◌≡◌, ℕ, zero, suc, ◌<◌, ◌≤◌, ℤ, true, false, List, [], ◌∷◌, ◌++◌, length, map, Contains, Option, Some, Result, Ok, refl, sym, ◌∙◌, ap, subst, arith, ⊎_elim, inl, inr}
 use Rattle.std.specs.Prelude.{if◌then◌else◌, slice_get, ◌⊎◌}
 use Rattle.std.specs.Option.{option_map}
-use Rattle.iv_words.specs.Words.{same_word}
 use Rattle.iv_words.proofs.Equality.{same_self}
 use Rattle.type_trees.specs.Values.{cells}
 use Rattle.area_types.specs.Syntax as types
@@ -11,10 +10,10 @@ use Rattle.area_types.specs.declared.region.Region.TheVariants.{Own}
 use Rattle.area_types.specs.Tables.{written_out}
 use Rattle.area_types.specs.Trees.{Written}
 use Rattle.core_tree.specs.Environments.{Point}
-use Rattle.core_tree.specs.Syntax.{Label, Local}
+use Rattle.core_tree.specs.Syntax.{Local}
 use Rattle.core_tree.specs.TypedStatements.{IsNext}
-use Rattle.core_meaning.specs.Areas.{Held, Area, Areas, Live}
-use Rattle.core_meaning.specs.State.{State, value_of, with_name, with_area}
+use Rattle.core_meaning.specs.Areas.{Held, Area, Live}
+use Rattle.core_meaning.specs.State.{State, value_of, with_area}
 use Rattle.core_meaning.specs.Values as source
 use Rattle.core_meaning.specs.Values.{Value}
 use Rattle.region_soundness.specs.Laws.{PlaceIn}
@@ -23,21 +22,21 @@ use Rattle.c_memory.specs.Abstract.{Same}
 use Rattle.c_ast.specs.declared.CBase.{CBase}
 use Rattle.c_ast.specs.Names.{named}
 use Rattle.c_ast.specs.Scalars.{metric_of}
-use Rattle.c_ast.specs.StaticTypes.{Entity, ObjectName, PlaceType, Stored, of_entity}
-use Rattle.c_ast.specs.Structs.{CTree, tree}
-use Rattle.c_ast.specs.Syntax.{Name, Expr, Read, Address, Place, Var, At}
+use Rattle.c_ast.specs.StaticTypes.{ObjectName, PlaceType, Stored, of_entity}
+use Rattle.c_ast.specs.Structs.{tree}
+use Rattle.c_ast.specs.Syntax.{Name, Read, Address, Var, At}
 use Rattle.c_ast.specs.Targets.{table_of}
-use Rattle.c_meaning.specs.Expressions.{eval, eval_place, static_place_type}
+use Rattle.c_meaning.specs.Expressions.{eval_place}
 use Rattle.c_meaning.specs.Memory.{CObjects, memory_of}
 use Rattle.c_meaning.specs.Places.{Lvalue, Located, address_of, or_outer, file_place}
-use Rattle.c_meaning.specs.Scopes.{declarations, local_entity, file_entity}
-use Rattle.c_meaning.specs.State.{CState, Slot, Naming, declare_object}
-use Rattle.c_meaning.specs.Values.{CValue, Trouble, Ptr, on_ok}
-use Rattle.area_objects.specs.Both.{Map, LiveIn}
+use Rattle.c_meaning.specs.Scopes.{local_entity, file_entity}
+use Rattle.c_meaning.specs.State.{CState, Naming, declare_object}
+use Rattle.c_meaning.specs.Values.{Trouble, on_ok}
+use Rattle.area_objects.specs.Both.{Map}
 use Rattle.area_objects.specs.Holds.{CellsFit, CanHold}
-use Rattle.area_objects.specs.Located.{IsType, begins, located}
+use Rattle.area_objects.specs.Located.{begins, located}
 use Rattle.area_objects.specs.PlaceLaws.{BothIn}
-use Rattle.area_objects.specs.Shapes.{shape, base_of}
+use Rattle.area_objects.specs.Shapes.{shape}
 use Rattle.area_objects.proofs.Alike.{lawful_in}
 use Rattle.area_objects.proofs.Lives.{areas_made}
 use Rattle.area_objects.proofs.Located.{parts_pointed_to}
@@ -51,7 +50,7 @@ use Rattle.value_refinement.specs.Related.{PointerIs, PlaceIs, NameStands, Relat
 use Rattle.value_refinement.specs.Settings.{Setting, HasCType}
 use Rattle.value_refinement.proofs.Keeping.{kept_less, kept_object, kept_twice}
 use Rattle.value_refinement.proofs.Lets.{place_with, stands_with}
-use Rattle.statement_refinement.specs.Apart.{OfNoArea, IsApart, CountersApart}
+use Rattle.statement_refinement.specs.Apart.{OfNoArea, CountersApart}
 use Rattle.statement_refinement.specs.Moves.{Moved}
 use Rattle.statement_refinement.proofs.Moves.{states_move_on}
 use Rattle.body_refinement.specs.Bodies.{Lowered, env_in, frame_in, program_in, within}

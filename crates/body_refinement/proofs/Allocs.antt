@@ -1,5 +1,5 @@
 -- An `alloc` follows: the expressions of its initializer come first, and the declaration takes the statement's step and makes the object.
-use Rattle.std.proofs.Common.{◌≡◌, ℕ, zero, suc, ◌+◌, ◌≤◌, List, [], ◌∷◌, ◌++◌, length, true, false, Option, Some, None, Ok, refl, sym, ◌∙◌, ap, subst, arith}
+use Rattle.std.proofs.Common.{◌≡◌, ℕ, ◌≤◌, List, [], ◌∷◌, ◌++◌, length, true, false, Option, Some, None, Ok, refl, ◌∙◌, ap, arith}
 use Rattle.std.proofs.lemmas.Option.{slice_get_within}
 use Rattle.step_semantics.specs.Control.{Control, Falls}
 use Rattle.step_semantics.specs.Follows.{Follows}
@@ -14,7 +14,7 @@ use Rattle.area_types.specs.Trees.{Written}
 use Rattle.core_tree.specs.Checks.{stmt_checks}
 use Rattle.core_tree.specs.Environments.{Point}
 use Rattle.core_tree.specs.Syntax.{InitCore, Alloc}
-use Rattle.core_tree.specs.TypedStatements.{AllocTyped, MayInit}
+use Rattle.core_tree.specs.TypedStatements.{AllocTyped}
 use Rattle.core_meaning.specs.Areas.{Held, filled}
 use Rattle.core_meaning.specs.Initializers.{first_value}
 use Rattle.core_meaning.specs.State.{State, with_area}
@@ -53,7 +53,7 @@ use Rattle.body_refinement.proofs.Allocated.{has_type, came_behind}
 use Rattle.body_refinement.proofs.Braces.{InitGives}
 use Rattle.body_refinement.proofs.Coming.{set_in, stage_in}
 use Rattle.body_refinement.proofs.Initializers.{InitComes, InitFollows, init_follows}
-use Rattle.body_refinement.proofs.InitTypes.{WrittenTyped, written_typed}
+use Rattle.body_refinement.proofs.InitTypes.{written_typed}
 use Rattle.body_refinement.proofs.Zeros.{filled_fits, zero_init_gives}
 
 -- ---- the declaration

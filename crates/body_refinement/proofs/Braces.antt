@@ -1,17 +1,15 @@
 -- What an initializer of C gives for a type: its parts in a row, zeros for those that are left out, and braces, which are `{0}` around one zero.
 use Rattle.std.proofs.Common.{◌≡◌, ℕ, zero, suc, ℤ, pos, Bool, true, false, List, [], ◌∷◌, ◌++◌, Result, Ok, Err, refl, sym, ◌∙◌, ap, subst, eqb-true, lit<}
-use Rattle.std.specs.Prelude.{if◌then◌else◌, nat_eq}
+use Rattle.std.specs.Prelude.{if◌then◌else◌}
 use Rattle.type_trees.specs.Trees.{Leaf, Many as Repeated, Struct, End, Field, repeated}
-use Rattle.type_trees.specs.Values.{Values, Cell, Parts, Nil, Cons, cells, cells_row}
+use Rattle.type_trees.specs.Values.{Values, Parts, Nil, Cons, cells, cells_row}
 use Rattle.c_memory.specs.Initializers as values
 use Rattle.c_memory.specs.Initializers.{zeros, zeros_row, initial, initial_row, copies_of, elements}
 use Rattle.c_ast.specs.declared.CKind.{CKind}
-use Rattle.c_ast.specs.declared.CKind.TheVariants.{Scalar}
 use Rattle.c_ast.specs.declared.CScalar.{CScalar}
 use Rattle.c_ast.specs.declared.CScalar.TheVariants as scalar
 use Rattle.c_ast.specs.declared.Suffix.TheVariants.{Plain, U, Ll, Ull}
 use Rattle.c_ast.specs.declared.Target.{Target}
-use Rattle.c_ast.specs.Conversions.{can_hold}
 use Rattle.c_ast.specs.Structs.{CTree, CRow}
 use Rattle.c_ast.specs.Syntax.{Expr, Number, Read, Address, Unary, Binary, Cast, Cond, Init, One, Zero, Many, Inits, NoInits, MoreInits}
 use Rattle.c_ast.specs.Targets.{table_of}

@@ -1,7 +1,6 @@
 -- An initializer's expressions follow one after another, and what is then written in C gives the cells of the first value, while what it reads
 -- is kept.
-use Rattle.std.proofs.Common.{◌≡◌, ℕ, zero, suc, ◌+◌, ◌≤◌, ℤ, List, [], ◌∷◌, ◌++◌, map, Option, Some, None, Ok, refl, sym, ◌∙◌, ap, subst, arith, append_assoc, append-nil}
-use Rattle.std.specs.Prelude.{IsTrue}
+use Rattle.std.proofs.Common.{◌≡◌, ℕ, zero, suc, ◌+◌, ◌≤◌, ℤ, List, [], ◌∷◌, ◌++◌, map, Option, None, Ok, refl, sym, ◌∙◌, ap, subst, arith, append_assoc, append-nil}
 use Rattle.step_semantics.specs.Control.{Control}
 use Rattle.step_semantics.specs.Follows.{Follows}
 use Rattle.step_semantics.specs.Steps.{World, Part, give, bind, ticks}
@@ -20,13 +19,11 @@ use Rattle.core_meaning.specs.Areas.{Held, filled}
 use Rattle.core_meaning.specs.Checks.{on_number}
 use Rattle.core_meaning.specs.Expressions.{eval}
 use Rattle.core_meaning.specs.Gives.{Gives}
-use Rattle.core_meaning.specs.Initializers.{field_types, part_types, zeros, init_value, init_values, first_value}
+use Rattle.core_meaning.specs.Initializers.{field_types, zeros, init_value, init_values}
 use Rattle.core_meaning.specs.State.{State}
 use Rattle.core_meaning.specs.Values as source
 use Rattle.core_meaning.specs.Values.{Value}
 use Rattle.c_memory.specs.Initializers as c_values
-use Rattle.c_ast.specs.declared.CKind.TheVariants.{Scalar}
-use Rattle.c_ast.specs.declared.CScalar.{CScalar}
 use Rattle.c_ast.specs.Structs.{CTree}
 use Rattle.c_ast.specs.Syntax.{Stmt, Init, One, Inits, NoInits, MoreInits}
 use Rattle.c_ast.specs.Targets.{table_of}
@@ -41,11 +38,11 @@ use Rattle.lower_types.specs.Initializers.{zero_part}
 use Rattle.lower_types.specs.Types.{scalar_for}
 use Rattle.lower_values.specs.Expressions.{raw}
 use Rattle.lower_values.specs.Pieces.{Piece, paid}
-use Rattle.lower_statements.specs.Locals.{zero_fields, some_element, bracing, rest_of, InitPiece, InitsPiece, init_piece, inits_piece, local_init}
+use Rattle.lower_statements.specs.Locals.{zero_fields, some_element, bracing, rest_of, InitPiece, InitsPiece, init_piece, inits_piece}
 use Rattle.value_refinement.specs.Kept.{Kept}
 use Rattle.value_refinement.specs.Laws.{Numbered, Stage, owing, spare, running}
 use Rattle.value_refinement.specs.Related.{Related}
-use Rattle.value_refinement.specs.Settings.{Setting, Set}
+use Rattle.value_refinement.specs.Settings.{Setting}
 use Rattle.value_refinement.specs.Values.{Comes}
 use Rattle.value_refinement.proofs.Expressions.{raw_all}
 use Rattle.value_refinement.proofs.Given.{first_checks, last_checks}
@@ -57,7 +54,7 @@ use Rattle.body_refinement.specs.Bodies.{Lowered, env_in, within}
 use Rattle.body_refinement.proofs.Braces.{parts_in_numbers, zero_parts, initial_parts, member_types, InitGives, InitsGive, one_gives, none_give, more_give, struct_gives, array_gives}
 use Rattle.body_refinement.proofs.Coming.{set_in}
 use Rattle.body_refinement.proofs.InitTypes.{WrittenTyped, AllTyped}
-use Rattle.body_refinement.proofs.Zeros.{filled_zero, filled_fits, filled_gives, zero_part_gives, zero_init_gives}
+use Rattle.body_refinement.proofs.Zeros.{filled_zero, filled_fits, filled_gives, zero_part_gives}
 
 -- ---- rows of types
 

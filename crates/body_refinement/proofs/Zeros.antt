@@ -2,7 +2,6 @@
 use Rattle.std.proofs.Common.{◌≡◌, ℕ, zero, suc, ◌*◌, ℤ, pos, List, [], ◌∷◌, ◌++◌, refl, sym, ◌∙◌, ap, subst, append-nil}
 use Rattle.std.specs.Prelude.{if◌then◌else◌, take, drop, get_or}
 use Rattle.type_trees.specs.Trees.{Leaf, Many, Struct, End, Field, repeated, count}
-use Rattle.type_trees.specs.Values as tree
 use Rattle.type_trees.specs.Values.{cells, cells_row, EachOf, FitsRow}
 use Rattle.area_types.specs.Syntax.{ValueType}
 use Rattle.area_types.specs.Trees.{Written, WrittenRow}
@@ -18,7 +17,6 @@ use Rattle.c_meaning.specs.State.{Program, CState}
 use Rattle.area_objects.specs.Holds.{CellsFit, CanHold}
 use Rattle.area_objects.specs.Shapes.{Naming, shape, members}
 use Rattle.lower_types.specs.Initializers.{elements, filled, filled_row, zero_init, zero_part, all_zero}
-use Rattle.lower_types.specs.Constants.{number_for}
 use Rattle.body_refinement.proofs.Braces.{zero_parts, member_types, copies_are_parts, zero_row_is_parts, nought_held, InitGives, InitsGive, zero_gives, none_give, more_give, struct_gives, array_gives}
 
 nothing_dropped : (n : ℕ) (vs : List ℤ) → vs ≡ [] → drop n vs ≡ []

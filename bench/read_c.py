@@ -100,9 +100,11 @@ GROWING = [
 
 
 def instructions(command):
-    """The instructions of a command, by callgrind, and what it wrote."""
+    """The instructions of a command, by callgrind, which must end well, and what it wrote."""
     run = subprocess.run(["valgrind", "--tool=callgrind", "--callgrind-out-file=/dev/null", *command],
                          stdout=subprocess.PIPE, stderr=subprocess.PIPE, check=False)
+    if run.returncode:
+        sys.exit(f"status {run.returncode} of {' '.join(command)}: {run.stderr.decode()[:400]}")
     return int(re.search(rb"refs:\s+([\d,]+)", run.stderr).group(1).replace(b",", b"")), run.stdout.decode()
 
 

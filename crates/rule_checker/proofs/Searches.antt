@@ -13,14 +13,6 @@ pub found_is_any : {A : Type 0} (test : A → Bool) (xs : List A) → is_some (f
 found_is_any test [] = refl
 found_is_any test (x ∷ xs) = found_with (test x) x (find test xs) (list_any test xs) (found_is_any test xs)
 
-position_with : (b : Bool) (i : ℕ) (o : Option ℕ) (rest : Bool) → is_some o ≡ rest → is_some (cond b (Some i) o) ≡ b || rest
-position_with true i o rest h = refl
-position_with false i o rest h = h
-
-pub position_is_any : {A : Type 0} (test : A → Bool) (i : ℕ) (xs : List A) → is_some (position_from test i xs) ≡ list_any test xs
-position_is_any test i [] = refl
-position_is_any test i (x ∷ xs) = position_with (test x) i (position_from test (i + 1) xs) (list_any test xs) (position_is_any test (i + 1) xs)
-
 -- ---- what is found by its name, among the names alone
 
 pub position_of_map : {A B : Type 0} (f : A → B) (test : B → Bool) (i : ℕ) (xs : List A) → position_from test i (map f xs) ≡ position_from (λ x. test (f x)) i xs

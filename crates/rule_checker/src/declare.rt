@@ -1,19 +1,31 @@
 //! Tables of items grow by one item after another.
 
-ghost use Rattle.std.specs.Prelude.{◌≡◌, [], ◌∷◌, ◌++◌, OnOk};
+ghost use Rattle.std.specs.Prelude.{◌≡◌, not, cond, [], ◌∷◌, ◌++◌, OnOk};
 ghost use Rattle.area_types.specs.View.{struct_of};
 ghost use Rattle.source_types.specs.Environments.{nothing_earlier};
 ghost use Rattle.rule_checker.specs.Contexts.{earlier_of, area_entry_of, callee_entry_of};
 
-use crate::items::{AreaEntry, CalleeEntry, Items};
+use crate::items::{AreaEntry, CalleeEntry, CalleeNames, Items};
 use area_types::StructDef;
-use iv_words::{Memory, Seq};
+use iv_words::{Memory, Seq, Word};
 use ivory_tree::BitsItem;
 use name_lists::NameList;
 use std::alloc::Global;
 
 /// So many bit data and so many structs have a number.
 const MOST: usize = 4_294_967_295;
+
+fn no_names(alloc: Global) -> CalleeNames
+    ensures all { result.all ≡ [] }
+    ensures imports { result.imports ≡ [] }
+    ensures procedures { result.procedures ≡ [] }
+{
+    CalleeNames {
+        all: NameList::new(alloc),
+        imports: NameList::new(alloc),
+        procedures: NameList::new(alloc),
+    }
+}
 
 /// No items, with room that grows from `alloc`.
 pub fn no_items(alloc: Global) -> Items
@@ -27,7 +39,7 @@ pub fn no_items(alloc: Global) -> Items
         bit_names: NameList::new(alloc),
         struct_names: NameList::new(alloc),
         area_names: NameList::new(alloc),
-        callee_names: NameList::new(alloc),
+        callee_names: no_names(alloc),
     }
 }
 
@@ -85,17 +97,37 @@ pub fn add_area(alloc: Global, items: &mut Items, item: AreaEntry) -> Result<(),
     }
 }
 
-/// Adds an import or a procedure.
+/// Adds a name to those of all and to those of its kind.
+fn name_callee(
+    alloc: Global,
+    names: &mut CalleeNames,
+    name: Word,
+    import: bool,
+) -> Result<(), Memory>
+    ensures all { OnOk result (names.new.all ≡ names.old.all ++ name ∷ []) }
+    ensures imports { OnOk result (names.new.imports ≡ names.old.imports ++ cond import (name ∷ []) []) }
+    ensures procedures { OnOk result (names.new.procedures ≡ names.old.procedures ++ cond (not import) (name ∷ []) []) }
+{
+    names.all.push(alloc, name.copy(alloc)?)?;
+    if import {
+        names.imports.push(alloc, name)
+    } else {
+        names.procedures.push(alloc, name)
+    }
+}
+
+/// Adds an import or a procedure. For want of memory none is left.
 pub fn add_callee(alloc: Global, items: &mut Items, item: CalleeEntry) -> Result<(), Memory>
     ensures { OnOk result (earlier_of items.new ≡ record (earlier_of items.old) { callees = (earlier_of items.old).callees ++ callee_entry_of item ∷ [] }) }
 {
-    let count = items.callees.len();
     let name = item.name.copy(alloc)?;
+    let import = item.import;
     items.callees.push(item)?;
-    match items.callee_names.push(alloc, name) {
+    match name_callee(alloc, &mut items.callee_names, name, import) {
         Ok(()) => Ok(()),
         Err(memory) => {
-            items.callees.truncate(count);
+            items.callees.truncate(0);
+            items.callee_names = no_names(alloc);
             Err(memory)
         }
     }

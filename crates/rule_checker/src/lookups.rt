@@ -59,7 +59,7 @@ pub(crate) fn area_named<'a>(items: &'a Items, name: &Word) -> Option<&'a AreaEn
 pub fn callee_named<'a>(items: &'a Items, name: &Word) -> Option<&'a CalleeEntry>
     ensures { option_map callee_entry_of (option_copied result) ≡ earlier.callee_named (earlier_of items.now) name.now }
 {
-    match items.callee_names.position(name) {
+    match items.callee_names.all.position(name) {
         Some(number) => items.callees.get(number),
         None => None,
     }
@@ -74,17 +74,17 @@ pub fn is_area(items: &Items, name: &Word) -> bool
 pub fn is_callee(items: &Items, name: &Word) -> bool
     ensures { result ≡ earlier.is_callee (earlier_of items.now) name.now }
 {
-    items.callee_names.contains(name)
+    items.callee_names.all.contains(name)
 }
 
-#[tactic(auto, using(crate::proofs::Searches::position_is_any))]
+#[tactic(auto, using(name_lists::proofs::Positions::position_is_any))]
 pub fn is_struct(items: &Items, name: &Word) -> bool
     ensures { result ≡ earlier.is_struct (earlier_of items.now) name.now }
 {
     number_of_struct(items, name).is_some()
 }
 
-#[tactic(auto, using(crate::proofs::Searches::position_is_any))]
+#[tactic(auto, using(name_lists::proofs::Positions::position_is_any))]
 pub fn is_bits(items: &Items, name: &Word) -> bool
     ensures { result ≡ earlier.is_bits (earlier_of items.now) name.now }
 {

@@ -10,10 +10,10 @@ pub returns-in-Some : goal.returns-in-Some
 returns-in-Some c =
     let items : Items = c.args.items.now in
     ap (option_map callee_entry_of) c.get.ensures.value ∙ ap (option_and_then (λ k. option_map callee_entry_of (slice_get items.callees k))) c.in-Some.ensures.first
-    ∙ found_by_name callee_entry_of (λ (x : Callee). x.name) items.callee_names items.callees c.args.name.now items.callees_are_named
+    ∙ found_by_name callee_entry_of (λ (x : Callee). x.name) items.callee_names.all items.callees c.args.name.now items.callees_are_named
 
 pub returns-in-None : goal.returns-in-None
 returns-in-None c =
     let items : Items = c.args.items.now in
     ap (option_and_then (λ k. option_map callee_entry_of (slice_get items.callees k))) c.in-None.ensures.first
-    ∙ found_by_name callee_entry_of (λ (x : Callee). x.name) items.callee_names items.callees c.args.name.now items.callees_are_named
+    ∙ found_by_name callee_entry_of (λ (x : Callee). x.name) items.callee_names.all items.callees c.args.name.now items.callees_are_named

@@ -8,4 +8,4 @@ use Rattle.rule_checker.proofs.lookups.is_callee.Goals as goal
 pub returns : goal.returns
 returns c =
     let items : Items = c.args.items.now in
-    c.contains.ensures ∙ any_by_name callee_entry_of (λ (x : Callee). x.name) items.callee_names items.callees c.args.name.now items.callees_are_named
+    c.contains.ensures ∙ any_by_name callee_entry_of (λ (x : Callee). x.name) items.callee_names.all items.callees c.args.name.now items.callees_are_named

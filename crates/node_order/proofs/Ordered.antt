@@ -77,9 +77,9 @@ wider below low high above ss a b r = record { inside = widen below low high abo
 -- a place before those within it
 pub over : (s : Span) (ss : List Span) → s.start < s.end → Between s.start s.end ss → Between s.start s.end (s ∷ ss)
 over s ss filled r = record {
-    inside = (omega arith, filled, omega arith, r.inside);
-    order = two (before_all_within s ss r.inside) r.order;
-  }
+  inside = (omega arith, filled, omega arith, r.inside);
+  order = two (before_all_within s ss r.inside) r.order;
+}
 
 -- one row behind another
 pub beside : (low mid high : ℕ) (xs ys : List Span) → low ≤ mid → mid ≤ high → Between low mid xs → Between mid high ys → Between low high (xs ++ ys)

@@ -2,7 +2,6 @@
 use Rattle.std.proofs.Common.{◌≡◌, ℕ, ◌+◌, Bool, List, [], ◌∷◌, ◌++◌, map, refl, sym, ap, ap₂, ◌∙◌}
 use Rattle.std.specs.Prelude.{Option}
 use Rattle.std.proofs.lemmas.List.{append-nil, append_assoc, map-append}
-use Rattle.iv_words.specs.declared.Span.{Span}
 use Rattle.ivory_tree.specs.Syntax.{Word, TypeSyntax, TruthType, IntType, IndexType, BitsType, RefType, AreaSyntax, StoredArea, ArrayArea, StructArea, ExprSyntax, Literal, Truth, Outcome, Variable, Cast, ToIndex, WrapIndex, MakeBits, Raw, SetField, Prefix, Binary, Field, Element, Cond, Bare, InitSyntax, One, Many, InitsSyntax, NoInits, MoreInits, CallSyntax}
 use Rattle.ivory_tree.specs.Nodes as tree
 use Rattle.ivory_tree.specs.Nodes.{At, Nodes, Nil, Cons, one, joined, nodes_from, type_node, area_node, expr_node, init_node, init_nodes, call_node}
@@ -46,12 +45,12 @@ both {xs} {ys} {ns} {ms} first second = record { same = map-append span_of xs ys
 -- ---- types and areas
 
 mutual
-  pub type_shown : (earlier : Earlier) (regions : List Word) (use : Use) (t : TypeSyntax) → Shows (type_row earlier regions use t) (type_node t)
-  type_shown earlier regions use (TruthType s) = under none
-  type_shown earlier regions use (IntType s kind) = under none
-  type_shown earlier regions use (IndexType s n) = under none
-  type_shown earlier regions use (BitsType s name) = under none
-  type_shown earlier regions use (RefType s constant region area) = under (last (area_shown earlier area))
+  pub type_shown : (earlier : Earlier) (regions : List Word) (place : Use) (t : TypeSyntax) → Shows (type_row earlier regions place t) (type_node t)
+  type_shown earlier regions place (TruthType s) = under none
+  type_shown earlier regions place (IntType s kind) = under none
+  type_shown earlier regions place (IndexType s n) = under none
+  type_shown earlier regions place (BitsType s name) = under none
+  type_shown earlier regions place (RefType s constant region area) = under (last (area_shown earlier area))
 
   pub area_shown : (earlier : Earlier) (a : AreaSyntax) → Shows (area_row earlier a) (area_node a)
   area_shown earlier (StoredArea s ty) = under (last (type_shown earlier [] Within ty))

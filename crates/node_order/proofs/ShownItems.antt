@@ -1,10 +1,9 @@
 -- The row of nodes of an item or a module has the places of its tree; so it is in the order of the text.
-use Rattle.std.proofs.Common.{◌≡◌, Bool, true, not, List, [], ◌∷◌, ◌++◌, map, refl, sym, ap, ap₂, ◌&&◌, ◌∙◌}
+use Rattle.std.proofs.Common.{◌≡◌, true, not, List, [], ◌∷◌, ◌++◌, map, refl, sym, ap, ap₂, ◌&&◌, ◌∙◌}
 use Rattle.std.specs.Prelude.{Option, Some, None, option_map}
 use Rattle.std.proofs.lemmas.List.Folds.{list_all-map}
-use Rattle.ivory_tree.specs.Syntax.{Word, TypeSyntax, FieldSyntax, ParamSyntax, HeaderSyntax, ContractSyntax, ProcSyntax, ItemSyntax, BitsData, Struct, Global, Import, Procedure, InitSyntax, ModuleSyntax}
+use Rattle.ivory_tree.specs.Syntax.{Word, TypeSyntax, FieldSyntax, ParamSyntax, HeaderSyntax, ContractSyntax, ProcSyntax, ItemSyntax, BitsData, Struct, Global, Import, Procedure, InitSyntax}
 use Rattle.ivory_tree.specs.declared.BitField.{BitField}
-use Rattle.ivory_tree.specs.Formed.{Formed}
 use Rattle.ivory_tree.specs.Nodes.{bit_field_node, field_node, param_node, contract_node, type_node, init_node, item_node, module_nodes, nodes_from, none_or_one, header_nodes, proc_nodes}
 use Rattle.area_types.specs.Syntax as types
 use Rattle.source_types.specs.Environments.{Earlier, nothing_earlier}
@@ -15,7 +14,7 @@ use Rattle.rule_faults.specs.Wants.{Wants}
 use Rattle.rule_faults.specs.Nodes.{Boundary, Imported, ForParam, ForResult, Node, AnItem, ABitField, AField, AParam, AContract, span_of}
 use Rattle.rule_faults.specs.ExpressionRows.{type_row, area_row, expr_row}
 use Rattle.rule_faults.specs.ItemRows.{bit_fields_row, fields_row, params_row, result_row, at_header, header_row, with_params, contracts_row, boundary_of, init_rows, proc_row, within_item, items_row, module_row}
-use Rattle.rule_faults.specs.FirstFault.{comes_before, in_order, module_in_order}
+use Rattle.rule_faults.specs.FirstFault.{comes_before, in_order}
 use Rattle.node_order.specs.Laws.{ModulesAreInOrder}
 use Rattle.node_order.proofs.Ordered.{ordered}
 use Rattle.node_order.proofs.Placed.{row_ordered}

@@ -1,5 +1,5 @@
 -- The row of nodes of a statement or a block has the places of its tree.
-use Rattle.std.proofs.Common.{Bool, true, false, ◌&&◌, List}
+use Rattle.std.proofs.Common.{Bool, true, false, ◌&&◌}
 use Rattle.std.specs.Prelude.{Some, None}
 use Rattle.ivory_tree.specs.Syntax.{StmtSyntax, Let, LetCall, Alloc, Store, Copy, Call, If, IfElse, Map, Upto, Downto, Forever, Break, Return, Assert, NoAlloc, NoBreak, NoReturn, BlockSyntax, Braces, StmtsSyntax, NoStmts, MoreStmts}
 use Rattle.ivory_tree.specs.Nodes.{stmt_node, block_node, stmt_nodes}

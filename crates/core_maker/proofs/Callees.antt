@@ -1,5 +1,5 @@
 -- The number of an import or a procedure is the place of its name among those of its kind.
-use Rattle.std.proofs.Common.{◌≡◌, ℕ, Bool, true, false, not, cond, List, [], ◌∷◌, map, filter, refl, sym, ap, ◌∙◌}
+use Rattle.std.proofs.Common.{◌≡◌, ℕ, Bool, true, false, cond, List, [], ◌∷◌, map, filter, refl, sym, ap, ◌∙◌}
 use Rattle.std.specs.List.{position_from}
 use Rattle.iv_words.specs.Words.{same_word}
 use Rattle.source_types.specs.Environments.{Callee}

@@ -1,6 +1,7 @@
 #!/usr/bin/env python3
 """Instructions of `ivoryc crun` for each byte of C texts of about a megabyte, with a script that calls nothing, so that the reading of the text is
-nearly all of it; beside `tcc -c` on the same texts. It prints the table of README.md beside this file, or writes it there with --write."""
+nearly all of it; beside `tcc -c` on the same texts. A second table has texts with many names in one place, and what ten times the names take. It prints
+both tables of README.md beside this file, or writes them there with --write."""
 import os
 import re
 import shutil
@@ -70,10 +71,40 @@ def texts():
     yield "functions that compute", filled(HALVED, lambda n: COMPUTED.format(n=n, c=n % 1000))
 
 
+def many_locals(count):
+    """A function of so many locals, each used once."""
+    lines = (f"  uint32_t const local{n} = {n}u;\n  iv_led(((uint8_t)local{n}));\n" for n in range(count))
+    return HEAD + IMPORTS + "void iv_main(void) {\n" + "".join(lines) + "}\n"
+
+
+def many_structs(count):
+    """So many structs with two members each, and a function for each of them."""
+    structs = (f"struct iv_pair{n} {{\n  uint32_t first;\n  uint8_t second[4];\n}};\n" for n in range(count))
+    uses = (f"void iv_put{n}(struct iv_pair{n} *const p) {{\n  (*p).first = {n}u;\n  (*p).second[1] = 7u;\n}}\n" for n in range(count))
+    return HEAD + "".join(structs) + "".join(uses)
+
+
+def many_members(count):
+    """A struct of so many members, each used once."""
+    members = (f"  uint32_t member{n};\n" for n in range(count))
+    uses = (f"  (*p).member{n} = {n}u;\n" for n in range(count))
+    return HEAD + "struct iv_row {\n" + "".join(members) + "};\nvoid iv_fill(struct iv_row *const p) {\n" + "".join(uses) + "}\n"
+
+
+NAMES = 2_000
+GROWING = [
+    ("a function of 2,000 locals, each used once", many_locals),
+    ("2,000 structs with members, each used", many_structs),
+    ("a struct of 2,000 members, each used once", many_members),
+]
+
+
 def instructions(command):
-    """The instructions of a command, by callgrind, and what it wrote."""
+    """The instructions of a command, by callgrind, which must end well, and what it wrote."""
     run = subprocess.run(["valgrind", "--tool=callgrind", "--callgrind-out-file=/dev/null", *command],
                          stdout=subprocess.PIPE, stderr=subprocess.PIPE, check=False)
+    if run.returncode:
+        sys.exit(f"status {run.returncode} of {' '.join(command)}: {run.stderr.decode()[:400]}")
     return int(re.search(rb"refs:\s+([\d,]+)", run.stderr).group(1).replace(b",", b"")), run.stdout.decode()
 
 
@@ -98,11 +129,19 @@ def row(start, name, text, folder):
     return f"| {name} | {len(text):,} | {ours / len(text):.0f} | {theirs} | {ratio} |\n"
 
 
+def growth(start, name, made, folder):
+    small, large = made(NAMES // 10), made(NAMES)
+    few, many = read(small, folder) - start, read(large, folder) - start
+    return f"| {name} | {len(large):,} | {many / len(large):.0f} | {few / len(small):.0f} | {many / few:.1f} |\n"
+
+
 def table():
     with tempfile.TemporaryDirectory() as folder:
         start = read(HEAD, folder)
         head = "| Text | Bytes | Instructions for each byte | `tcc -c`, for each byte | ratio |\n|---|---|---|---|---|\n"
-        return head + "".join(row(start, name, text, folder) for name, text in texts())
+        more = "\n| Names | Bytes | Instructions for each byte | at a tenth | Growth to ten times the names |\n|---|---|---|---|---|\n"
+        rows = [row(start, name, text, folder) for name, text in texts()]
+        return head + "".join(rows) + more + "".join(growth(start, name, made, folder) for name, made in GROWING)
 
 
 def main():

@@ -13,6 +13,7 @@ use Rattle.c_expression_rules.specs.declared.init.Slots.TheVariants as slots
 use Rattle.c_expression_rules.specs.declared.init.Slot as one
 use Rattle.c_expression_rules.specs.declared.init.Slot.TheVariants as slot
 use Rattle.c_scopes.specs.Shapes.{shape_view}
+use Rattle.c_scopes.specs.StructViews.{structs_view}
 use Rattle.c_scopes.specs.Views.{base_view}
 
 -- elements or members that are not initialized yet, or nothing that could be
@@ -28,8 +29,8 @@ pub data Slot : Type 0 where
   Ignored : Slot
 
 abbrev pub slots_view : borrowed.Slots → Slots
-slots_view (slots.Elements n b structs) = Elements n (tree structs.now (base_view b))
-slots_view (slots.Members ms structs) = Members (row_of (table [] structs.now) ms.now)
+slots_view (slots.Elements n b structs) = Elements n (tree (structs_view structs) (base_view b))
+slots_view (slots.Members ms structs) = Members (row_of (table [] (structs_view structs)) ms.now)
 slots_view slots.Nothing = Nothing
 
 abbrev pub slot_view : one.Slot → Slot

@@ -14,15 +14,17 @@ ghost use Rattle.c_scopes.specs.Walks.{Walks};
 
 use crate::call::{check_given, pass_comma};
 use crate::expr::check_expr;
-use c_ast::{CExpr, CInit, CMember, CStruct};
-use c_scopes::{Base, Names, Shape, Walk, Wanted, base_of, shape_of, times_shape};
+use c_ast::{CExpr, CInit, CMember};
+use c_scopes::{
+    Base, Names, Shape, Structs, Walk, Wanted, base_of, members_of, shape_of, times_shape,
+};
 use c_text::CWhy;
 
 /// What is left to be initialized, from the first on: so many elements, members, or nothing that could be.
 #[derive(Clone, Copy, Drop)]
 pub enum Slots<'u> {
-    Elements(u32, Base<'u>, &'u [CStruct]),
-    Members(&'u [CMember], &'u [CStruct]),
+    Elements(u32, Base<'u>, Structs<'u>),
+    Members(&'u [CMember], Structs<'u>),
     Nothing,
 }
 
@@ -39,12 +41,12 @@ fn slots_of<'u>(shape: &Shape<'u>) -> Slots<'u>
 {
     match shape {
         Shape::Scalar(_) => Slots::Nothing,
-        Shape::Array(n, base, structs) => Slots::Elements(*n, *base, structs),
-        Shape::Struct(_, members, structs) => Slots::Members(members, structs),
+        Shape::Array(n, base, structs) => Slots::Elements(*n, *base, *structs),
+        Shape::Struct(_, members, structs) => Slots::Members(members_of(*members), *structs),
     }
 }
 
-fn first_member<'u>(members: &'u [CMember], structs: &'u [CStruct]) -> Slot<'u>
+fn first_member<'u>(members: &'u [CMember], structs: Structs<'u>) -> Slot<'u>
     ensures { slot_view result ≡ first_slot (slots_view (Slots.Members members.entry structs.entry)) }
 {
     match members.split_first() {
@@ -53,7 +55,7 @@ fn first_member<'u>(members: &'u [CMember], structs: &'u [CStruct]) -> Slot<'u>
     }
 }
 
-fn rest_members<'u>(members: &'u [CMember], structs: &'u [CStruct]) -> Slots<'u>
+fn rest_members<'u>(members: &'u [CMember], structs: Structs<'u>) -> Slots<'u>
     ensures { slots_view result ≡ rest_slots (slots_view (Slots.Members members.entry structs.entry)) }
 {
     match members.split_first() {
@@ -67,8 +69,8 @@ impl<'u> Slots<'u> {
         ensures { slot_view result ≡ first_slot (slots_view self.now) }
     {
         match self {
-            Slots::Elements(n, base, structs) => first_element(*n, base, structs),
-            Slots::Members(members, structs) => first_member(members, structs),
+            Slots::Elements(n, base, structs) => first_element(*n, base, *structs),
+            Slots::Members(members, structs) => first_member(members, *structs),
             Slots::Nothing => Slot::Nothing,
         }
     }
@@ -77,14 +79,14 @@ impl<'u> Slots<'u> {
         ensures { slots_view result ≡ rest_slots (slots_view self.now) }
     {
         match self {
-            Slots::Elements(n, base, structs) => rest_elements(*n, base, structs),
-            Slots::Members(members, structs) => rest_members(members, structs),
+            Slots::Elements(n, base, structs) => rest_elements(*n, base, *structs),
+            Slots::Members(members, structs) => rest_members(members, *structs),
             Slots::Nothing => Slots::Nothing,
         }
     }
 }
 
-fn first_element<'u>(n: u32, base: &Base<'u>, structs: &'u [CStruct]) -> Slot<'u>
+fn first_element<'u>(n: u32, base: &Base<'u>, structs: Structs<'u>) -> Slot<'u>
     ensures { slot_view result ≡ first_slot (slots_view (Slots.Elements n base.now structs.entry)) }
 {
     if n == 0 {
@@ -94,7 +96,7 @@ fn first_element<'u>(n: u32, base: &Base<'u>, structs: &'u [CStruct]) -> Slot<'u
     }
 }
 
-fn rest_elements<'u>(n: u32, base: &Base<'u>, structs: &'u [CStruct]) -> Slots<'u>
+fn rest_elements<'u>(n: u32, base: &Base<'u>, structs: Structs<'u>) -> Slots<'u>
     ensures { slots_view result ≡ rest_slots (slots_view (Slots.Elements n base.now structs.entry)) }
 {
     if n == 0 {

@@ -1,14 +1,15 @@
 -- Names that are added to those in scope, and taken out again.
 use Rattle.std.proofs.Common.{◌≡◌, refl, sym, ◌∙◌, ap, ℕ, zero, suc, ◌≤◌, List, [], ◌∷◌, ◌++◌, length, take, arith}
 use Rattle.std.proofs.lemmas.List.{length-take}
-use Rattle.std.specs.Prelude.{Result, Ok, Err, OnOk, None, map}
+use Rattle.std.specs.Prelude.{Result, Ok, Err, OnOk, None}
 use Rattle.std.proofs.lemmas.List.{take-append-le, take_all}
 use Rattle.c_text.specs.Scopes as scopes
 use Rattle.c_text.specs.Scopes.{with_value, with_const}
-use Rattle.c_scopes.specs.declared.names.Entry.{Entry}
+use Rattle.c_ast.specs.Syntax.{Name}
+use Rattle.c_scopes.specs.declared.names.Entity.{Entity}
 use Rattle.c_scopes.specs.declared.names.Names.{Names}
 use Rattle.c_rules.specs.Kept.{Kept}
-use Rattle.c_scopes.specs.Scope.{entity_view, entity_entry, names_view}
+use Rattle.c_scopes.specs.Scope.{entity_view, names_view}
 use Rattle.c_scopes.proofs.ScopeLists.{values_push}
 
 pub on_ok : {T E P Q : Type 0} (r : Result T E) → (P → Q) → OnOk r P → OnOk r Q
@@ -19,27 +20,27 @@ pub on_ok_always : {T E P : Type 0} (r : Result T E) → P → OnOk r P
 on_ok_always (Ok x) p = p
 on_ok_always (Err x) p = tt
 
-abbrev with_entries : Names → List Entry → Names
+abbrev with_entries : Names → List (Name × Entity) → Names
 with_entries n vs = record n { values = vs }
 
-front_within : (xs ys : List Entry) → take (length xs) ys ≡ xs → length xs ≤ length ys
+front_within : (xs ys : List (Name × Entity)) → take (length xs) ys ≡ xs → length xs ≤ length ys
 front_within xs ys e = omega (arith, ap length e, length-take (length xs) ys)
 
-take-take : (m n : ℕ) (xs : List Entry) → m ≤ n → take m (take n xs) ≡ take m xs
+take-take : (m n : ℕ) (xs : List (Name × Entity)) → m ≤ n → take m (take n xs) ≡ take m xs
 take-take zero n xs below = refl
 take-take (suc m) zero xs below = absurd (omega arith)
 take-take (suc m) (suc n) [] below = refl
 take-take (suc m) (suc n) (x ∷ xs) below = ap (λ ys. x ∷ ys) (take-take m n xs (omega arith))
 
-pub pushed_view : (old : Names) (vs : List Entry) (e : Entry) → vs ≡ old.values ++ e ∷ [] → names_view (with_entries old vs) ≡ with_value (names_view old) e.name.now (entity_view e.entity)
-pushed_view old vs e is =
+pub pushed_view : (old : Names) (vs : List (Name × Entity)) (d : Name × Entity) → vs ≡ old.values ++ d ∷ [] → names_view (with_entries old vs) ≡ with_value (names_view old) d.0 (entity_view d.1)
+pushed_view old vs d is =
     ap (λ xs. names_view (with_entries old xs)) is
-    ∙ ap (λ xs. let n : scopes.Names = record { structs = (names_view old).structs; functions = (names_view old).functions; itself = (names_view old).itself; values = xs; in_function = (names_view old).in_function } in n) (values_push (map entity_entry old.objects) old.values e)
+    ∙ ap (λ xs. let n : scopes.Names = record { structs = (names_view old).structs; functions = (names_view old).functions; itself = (names_view old).itself; values = xs; in_function = (names_view old).in_function } in n) (values_push old.objects old.values d)
 
-pub pushed_keeps : (old : Names) (vs : List Entry) (e : Entry) → vs ≡ old.values ++ e ∷ [] → Kept old (with_entries old vs)
-pushed_keeps old vs e is = record {
+pub pushed_keeps : (old : Names) (vs : List (Name × Entity)) (d : Name × Entity) → vs ≡ old.values ++ d ∷ [] → Kept old (with_entries old vs)
+pushed_keeps old vs d is = record {
   others = refl;
-  front = ap (λ xs. take (length old.values) xs) is ∙ take-append-le (length old.values) old.values (e ∷ []) (omega arith) ∙ take_all (length old.values) old.values (omega arith);
+  front = ap (λ xs. take (length old.values) xs) is ∙ take-append-le (length old.values) old.values (d ∷ []) (omega arith) ∙ take_all (length old.values) old.values (omega arith);
 }
 
 pub stays : (n : Names) → Kept n n

@@ -1,6 +1,6 @@
 -- Sizes that are counted up to a bound, along members and structs.
-use Rattle.std.proofs.Common.{◌≡◌, refl, sym, ◌∙◌, ap, ℕ, ◌+◌, ◌*◌, ◌≤◌, Bool, true, false, if◌then◌else◌, List, [], ◌∷◌, ◌++◌, min, max, Option, Some, None, ⊎_elim, arith}
-use Rattle.std.specs.Prelude.{map}
+use Rattle.std.proofs.Common.{◌≡◌, refl, sym, ◌∙◌, ap, ℕ, ◌+◌, ◌*◌, ◌≤◌, Bool, true, false, if◌then◌else◌, suc, length, List, [], ◌∷◌, ◌++◌, min, max, Option, Some, None, ⊎_elim, arith}
+use Rattle.std.specs.Prelude.{map, slice_get}
 use Rattle.std.specs.Option.{option_map}
 use Rattle.std.proofs.Math.Nat.{mul-le-mul_left}
 use Rattle.std.proofs.lemmas.Bool.{cases_lt}
@@ -12,6 +12,7 @@ use Rattle.c_ast.specs.declared.types.Target.{Target}
 use Rattle.c_ast.specs.declared.unit.CMember.{CMember}
 use Rattle.c_ast.specs.declared.unit.CStruct.{CStruct}
 use Rattle.c_ast.specs.Names.{named}
+use Rattle.c_ast.specs.Places.{place_from}
 use Rattle.c_ast.specs.Scalars.{metric_of}
 use Rattle.c_ast.specs.Structs.{CTree, or_empty, base_tree, times, row_of, struct_of, table, tree}
 use Rattle.c_ast.specs.Syntax.{Name}
@@ -22,7 +23,6 @@ use Rattle.type_trees.specs.Layouts.{align, align_row, size, end_row}
 use Rattle.type_trees.specs.Multiples.{up}
 use Rattle.type_trees.proofs.Multiples.{up_from, up_none}
 use Rattle.c_rules.specs.declared.sizes.Size.{Size}
-use Rattle.c_rules.specs.declared.sizes.Sized.{Sized}
 use Rattle.c_rules.specs.Sizes.{bound, capped, ended, sized_times, tree_size, row_size, entry_size, sized_view, sizes_of, or_nothing, base_size}
 
 -- ---- counting up to a bound
@@ -105,9 +105,52 @@ ended_is target e a =
     let some : max (align (metric_of target) a) 1 ≡ align (metric_of target) a = omega (arith, some_align target a) in
     ap (λ x. capped (up (capped e) x + capped (size (metric_of target) a))) some ∙ cap_end e (align (metric_of target) a) (size (metric_of target) a)
 
+sized_push : (ss : List CStruct) (s : CStruct) (zs : List Size) (z : Size) → length zs ≡ length ss → sized_view (ss ++ s ∷ []) (zs ++ z ∷ []) ≡ sized_view ss zs ++ (s.name, z) ∷ []
+sized_push [] s [] z e = refl
+sized_push [] s (y ∷ zs) z e = absurd (omega (arith, e))
+sized_push (t ∷ ss) s [] z e = absurd (omega (arith, e))
+sized_push (t ∷ ss) s (y ∷ zs) z e = ap (λ l. (t.name, y) ∷ l) (sized_push ss s zs z (omega (arith, e)))
+
 -- one more struct
-pub sized_more : (target : Target) (ss : List CStruct) (s : CStruct) (old new : List Sized) (e : Sized) → sized_view old ≡ sizes_of target ss → new ≡ old ++ e ∷ [] → e.tag.now ≡ s.name → e.size ≡ row_size target (row_of (table [] ss) s.members)
-    → sized_view new ≡ sizes_of target (ss ++ s ∷ [])
-sized_more target ss s old new e so_far pushed tag size =
-    ap sized_view pushed ∙ map-append (λ x. (x.tag.now, x.size)) old (e ∷ []) ∙ ap (λ l. l ++ (e.tag.now, e.size) ∷ []) so_far
-    ∙ ap (λ t. sizes_of target ss ++ (t, e.size) ∷ []) tag ∙ ap (λ z. sizes_of target ss ++ (s.name, z) ∷ []) size ∙ sym (sizes_push target ss s)
+pub sized_more : (target : Target) (ss : List CStruct) (s : CStruct) (old new : List Size) (z : Size) → sized_view ss old ≡ sizes_of target ss → length old ≡ length ss → new ≡ old ++ z ∷ [] → z ≡ row_size target (row_of (table [] ss) s.members)
+    → sized_view (ss ++ s ∷ []) new ≡ sizes_of target (ss ++ s ∷ [])
+sized_more target ss s old new z so_far counted pushed size =
+    ap (sized_view (ss ++ s ∷ [])) pushed ∙ sized_push ss s old z counted ∙ ap (λ l. l ++ (s.name, z) ∷ []) so_far
+    ∙ ap (λ x. sizes_of target ss ++ (s.name, x) ∷ []) size ∙ sym (sizes_push target ss s)
+
+-- ---- by the number of a struct
+
+size_lies : (j : ℕ) (ss : List CStruct) (zs : List Size) (w : Name) (k : ℕ) → place_from j ss w ≡ Some k → (i : ℕ) × (k ≡ j + i) × (slice_get zs i ≡ named (sized_view ss zs) w)
+size_lies j [] zs w k e = absurd (cc)
+size_lies j (s ∷ ss) [] w k e = at (same_word s.name w) e (size_lies (suc j) ss [] w k)
+  where
+    at : (b : Bool) → (if b then Some j else place_from (suc j) ss w) ≡ Some k
+        → (place_from (suc j) ss w ≡ Some k → (i : ℕ) × (k ≡ suc j + i) × (slice_get {X = Size} [] i ≡ named (sized_view ss []) w))
+        → (i : ℕ) × (k ≡ j + i) × (slice_get {X = Size} [] i ≡ None)
+    at true here later = let same : j ≡ k = cc in (0, omega (arith, same), refl)
+    at false here later = let lies = later here in (suc lies.0, omega (arith, lies.1), refl)
+size_lies j (s ∷ ss) (z ∷ zs) w k e = at (same_word s.name w) e (size_lies (suc j) ss zs w k)
+  where
+    at : (b : Bool) → (if b then Some j else place_from (suc j) ss w) ≡ Some k
+        → (place_from (suc j) ss w ≡ Some k → (i : ℕ) × (k ≡ suc j + i) × (slice_get zs i ≡ named (sized_view ss zs) w))
+        → (i : ℕ) × (k ≡ j + i) × (slice_get (z ∷ zs) i ≡ (if b then Some z else named (sized_view ss zs) w))
+    at true here later = let same : j ≡ k = cc in (0, omega (arith, same), refl)
+    at false here later = let lies = later here in (suc lies.0, omega (arith, lies.1), lies.2)
+
+pub size_at : (ss : List CStruct) (zs : List Size) (w : Name) (found : Option ℕ) (k : ℕ) → found ≡ place_from 0 ss w → found ≡ Some k → slice_get zs k ≡ named (sized_view ss zs) w
+size_at ss zs w found k is at =
+    let lies : (i : ℕ) × (k ≡ 0 + i) × (slice_get zs i ≡ named (sized_view ss zs) w) = size_lies 0 ss zs w k (sym is ∙ at) in
+    let same : k ≡ lies.0 = omega (arith, lies.1) in
+    ap (slice_get zs) same ∙ lies.2
+
+size_missing : (j : ℕ) (ss : List CStruct) (zs : List Size) (w : Name) → place_from j ss w ≡ None → None ≡ named (sized_view ss zs) w
+size_missing j [] zs w e = refl
+size_missing j (s ∷ ss) [] w e = refl
+size_missing j (s ∷ ss) (z ∷ zs) w e = at (same_word s.name w) e (size_missing (suc j) ss zs w)
+  where
+    at : (b : Bool) → (if b then Some j else place_from (suc j) ss w) ≡ None → (place_from (suc j) ss w ≡ None → None ≡ named (sized_view ss zs) w) → None ≡ (if b then Some z else named (sized_view ss zs) w)
+    at true here later = absurd (cc)
+    at false here later = later here
+
+pub no_size : (ss : List CStruct) (zs : List Size) (w : Name) (found : Option ℕ) → found ≡ place_from 0 ss w → found ≡ None → None ≡ named (sized_view ss zs) w
+no_size ss zs w found is none = size_missing 0 ss zs w (sym is ∙ none)

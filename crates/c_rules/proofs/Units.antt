@@ -21,10 +21,10 @@ use Rattle.c_text.specs.UnitRules.{file_scope, extern_demands, externs_demands, 
 use Rattle.c_scopes.specs.declared.names.Names.{Names}
 use Rattle.c_rules.specs.Kept.{OthersStay, ButObjects}
 use Rattle.c_scopes.specs.declared.names.Entity as borrowed
-use Rattle.c_scopes.specs.declared.names.Entry.{Entry}
 use Rattle.c_scopes.specs.declared.names.Signature as called
 use Rattle.c_scopes.specs.declared.names.Signature.TheVariants as signature
-use Rattle.c_scopes.specs.Scope.{entity_view, entity_entry, functions_view, itself_view, names_view, stop_alone, with_externs, with_values}
+use Rattle.c_scopes.specs.Scope.{entity_view, functions_view, itself_view, names_view, stop_alone, values_view, with_externs}
+use Rattle.c_scopes.specs.StructViews.{structs_view}
 use Rattle.c_rules.specs.UnitRows.{structs_asks, externs_asks, extern_rows, with_extern, behind_externs, with_object, with_objects, objects_asks, with_function, functions_asks}
 use Rattle.c_scopes.proofs.Rows.{asks}
 use Rattle.c_scopes.proofs.Walks.{behind_both}
@@ -198,11 +198,11 @@ function_declared before now f is = ap names_view is
 pub object_declared : (before now : Names) (o : CObject) (e : borrowed.Entity) → before.values ≡ [] → entity_view e ≡ ObjectName o.constant o.base
     → (let more : Names = record before { objects = (o.name, e) ∷ before.objects } in now ≡ more) → names_view now ≡ with_object (names_view before) (object_of o)
 object_declared before now o e none says is =
-    ap names_view is ∙ ap (in_scope (entity_entry (o.name, e) ∷ map entity_entry before.objects)) none ∙ ap (λ x. with_value (in_scope (map entity_entry before.objects) []) o.name x) says
-    ∙ ap (λ vs. with_value (in_scope (map entity_entry before.objects) vs) o.name (ObjectName o.constant o.base)) (sym none)
+    ap names_view is ∙ ap (in_scope ((o.name, e) ∷ before.objects)) none ∙ ap (λ x. with_value (in_scope before.objects []) o.name x) says
+    ∙ ap (λ vs. with_value (in_scope before.objects vs) o.name (ObjectName o.constant o.base)) (sym none)
   where
-    in_scope : List (Name × Entity) → List Entry → scopes.Names
-    in_scope ds vs = record { structs = before.structs.now; functions = functions_view before.functions; itself = itself_view before.itself; values = with_values ds vs; in_function = is_some before.itself }
+    in_scope : List (Name × borrowed.Entity) → List (Name × borrowed.Entity) → scopes.Names
+    in_scope os vs = record { structs = structs_view before.structs; functions = functions_view before.functions; itself = itself_view before.itself; values = values_view os vs; in_function = is_some before.itself }
 
 pub save_functions : (before now : Names) (fs : List (Name × called.Signature)) → (let more : Names = record before { functions = fs } in now ≡ more) → OthersStay before now
 save_functions before now fs is = is ∙ ap (λ n. let m : Names = record before { functions = n.functions } in m) (sym is)

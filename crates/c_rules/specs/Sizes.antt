@@ -1,5 +1,5 @@
 -- Sizes and alignments that are counted up to a bound which no member of a right unit reaches.
-use Rattle.std.specs.Prelude.{ℕ, ◌+◌, ◌*◌, min, max, List, [], map, Option, Some, None}
+use Rattle.std.specs.Prelude.{ℕ, ◌+◌, ◌*◌, min, max, List, [], ◌∷◌, map, Option, Some, None}
 use Rattle.c_ast.specs.declared.types.CBase.{CBase}
 use Rattle.c_ast.specs.declared.types.CBase.TheVariants.{Scalar, Struct as Named}
 use Rattle.c_ast.specs.declared.types.Target.{Target}
@@ -12,7 +12,6 @@ use Rattle.type_trees.specs.Layouts.{align, align_row, size, end_row}
 use Rattle.type_trees.specs.Multiples.{up}
 use Rattle.type_trees.specs.Trees.{Leaf}
 use Rattle.c_rules.specs.declared.sizes.Size.{Size}
-use Rattle.c_rules.specs.declared.sizes.Sized.{Sized}
 
 -- 2 ^ 40
 abbrev pub bound : ℕ
@@ -36,8 +35,11 @@ tree_size target a = record { bytes = capped (size (metric_of target) a); align 
 abbrev pub row_size : Target → CRow → Size
 row_size target r = record { bytes = capped (up (end_row (metric_of target) r 0) (align_row (metric_of target) r)); align = align_row (metric_of target) r }
 
-abbrev pub sized_view : List Sized → List (Name × Size)
-sized_view = map (λ s. (s.tag.now, s.size))
+-- structs with their sizes
+abbrev pub sized_view : List CStruct → List Size → List (Name × Size)
+sized_view [] zs = []
+sized_view (s ∷ ss) [] = []
+sized_view (s ∷ ss) (z ∷ zs) = (s.name, z) ∷ sized_view ss zs
 
 abbrev pub entry_size : Target → Name × CTree → Name × Size
 entry_size target x = (x.0, tree_size target x.1)

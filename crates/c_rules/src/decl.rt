@@ -11,7 +11,7 @@ ghost use Rattle.c_scopes.specs.Walks.{Walks};
 
 use c_ast::{CBase, CType};
 use c_expression_rules::{check_base, check_type};
-use c_scopes::{Entity, Entry, Names, Signature, Walk, Wanted, gap_name, wanted_of};
+use c_scopes::{Entity, Names, Signature, Walk, Wanted, gap_name, wanted_of};
 use c_text::CWhy;
 use iv_words::{Memory, Word};
 
@@ -43,7 +43,7 @@ pub fn declare<'u>(names: &mut Names<'u>, name: &'u Word, entity: Entity<'u>) ->
     ensures view { OnOk result (names_view names.new ≡ with_value (names_view names.old) name.now (entity_view entity.entry)) }
     ensures kept { OnOk result (Kept names.old names.new) }
 {
-    names.values.push(Entry { name, entity })
+    names.values.declare(name, entity)
 }
 
 /// Puts a name that holds a value into scope.

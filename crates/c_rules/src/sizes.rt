@@ -7,10 +7,12 @@ ghost use Rattle.c_ast.specs.Scalars.{scalar_bytes, scalar_alignment};
 ghost use Rattle.c_ast.specs.Targets.{table_of};
 ghost use Rattle.type_trees.specs.Multiples as multiples;
 ghost use Rattle.type_trees.specs.Trees.{Leaf};
+ghost use Rattle.c_scopes.specs.StructViews.{structs_view};
 ghost use Rattle.c_rules.specs.Sizes as sizes;
 ghost use Rattle.c_rules.specs.Sizes.{capped, ended, sized_times, tree_size, sized_view};
 
 use c_ast::{CBase, CMember, CScalar, Target};
+use c_scopes::Structs;
 use iv_words::{IntKind, Word};
 
 /// 2^40, which stands for all that is more.
@@ -21,13 +23,6 @@ pub const BOUND: u64 = 1_099_511_627_776;
 pub struct Size {
     pub bytes: u64,
     pub align: u64,
-}
-
-/// A struct with its size.
-#[derive(Clone, Copy, Drop)]
-pub struct Sized<'u> {
-    pub tag: &'u Word,
-    pub size: Size,
 }
 
 fn bytes_of(scalar: CScalar) -> u64
@@ -69,23 +64,21 @@ fn scalar_size(target: Target, scalar: CScalar) -> Size
 }
 
 /// The size of the first struct of a tag.
-fn find_size(sized: &[Sized], tag: &Word) -> Option<Size>
-    ensures { result ≡ named (sized_view sized.now) tag.now }
+fn find_size(structs: &Structs, sized: &[Size], tag: &Word) -> Option<Size>
+    ensures { result ≡ named (sized_view (structs_view structs.now) sized.now) tag.now }
 {
-    for entry in sized {
-        if *entry.tag == *tag {
-            return Some(entry.size);
-        }
+    match structs.find(tag) {
+        None => None,
+        Some(k) => sized.get(k).copied(),
     }
-    None
 }
 
-fn base_size(target: Target, sized: &[Sized], base: &CBase) -> Size
-    ensures { result ≡ sizes.base_size target (sized_view sized.now) base.now }
+fn base_size(target: Target, structs: &Structs, sized: &[Size], base: &CBase) -> Size
+    ensures { result ≡ sizes.base_size target (sized_view (structs_view structs.now) sized.now) base.now }
 {
     match base {
         CBase::Scalar(scalar) => scalar_size(target, *scalar),
-        CBase::Struct(tag) => match find_size(sized, tag) {
+        CBase::Struct(tag) => match find_size(structs, sized, tag) {
             None => Size { bytes: 0, align: 1 },
             Some(size) => size,
         },
@@ -105,10 +98,13 @@ fn times_size(length: Option<u32>, size: Size) -> Size
     }
 }
 
-pub fn member_size(target: Target, sized: &[Sized], member: &CMember) -> Size
-    ensures { result ≡ sized_times member.now.length (sizes.base_size target (sized_view sized.now) member.now.base) }
+pub fn member_size(target: Target, structs: &Structs, sized: &[Size], member: &CMember) -> Size
+    ensures { result ≡ sized_times member.now.length (sizes.base_size target (sized_view (structs_view structs.now) sized.now) member.now.base) }
 {
-    times_size(member.length, base_size(target, sized, &member.base))
+    times_size(
+        member.length,
+        base_size(target, structs, sized, &member.base),
+    )
 }
 
 /// The least multiple of an alignment that is not below an offset, up to the bound.

@@ -1,23 +1,22 @@
 //! Structs and their members.
 
-ghost use Rattle.std.specs.Prelude.{◌≡◌, ◌++◌, [], codes, map, max, nat_le};
-ghost use Rattle.std.specs.List.{list_any};
-ghost use Rattle.iv_words.specs.Words.{same_word};
+ghost use Rattle.std.specs.Prelude.{◌≡◌, ◌++◌, [], codes, map, max, nat_le, take};
 ghost use Rattle.c_ast.specs.Structs.{row_of, table};
 ghost use Rattle.c_text.specs.Rules.{behind};
 ghost use Rattle.c_text.specs.Spelling.{length_text, member_text, struct_text};
 ghost use Rattle.c_text.specs.TypeText.{object_text, texts};
 ghost use Rattle.c_text.specs.UnitRules as units;
 ghost use Rattle.c_text.specs.UnitRules.{members_demands, struct_demands};
-ghost use Rattle.c_rules.specs.Members.{member_asks};
+ghost use Rattle.c_rules.specs.Members.{member_asks, struct_named};
 ghost use Rattle.c_scopes.specs.Scope.{names_view};
+ghost use Rattle.c_scopes.specs.StructViews.{structs_view};
 ghost use Rattle.c_rules.specs.Sizes.{row_size, sized_view, sizes_of};
 ghost use Rattle.c_scopes.specs.Walks.{Walks};
 
-use crate::sizes::{Size, Sized, end_of, member_size, rounded};
-use c_ast::{CMember, CStruct};
+use crate::sizes::{Size, end_of, member_size, rounded};
+use c_ast::CMember;
 use c_expression_rules::check_base;
-use c_scopes::{Names, Walk};
+use c_scopes::{MemberTable, Names, Walk};
 use c_text::CWhy;
 use itoa::Buffer;
 use iv_words::Word;
@@ -29,17 +28,6 @@ fn is_allowed_length(length: Option<u32>) -> bool
         None => true,
         Some(n) => 1 <= n && n <= 65535,
     }
-}
-
-fn has_member_of(members: &[CMember], name: &Word) -> bool
-    ensures { result ≡ list_any (λ k. same_word k.name name.now) members.now }
-{
-    for member in members {
-        if member.name == *name {
-            return true;
-        }
-    }
-    false
 }
 
 fn pass_length(length: Option<u32>, walk: &mut Walk)
@@ -57,43 +45,57 @@ fn pass_length(length: Option<u32>, walk: &mut Walk)
 }
 
 /// The type and the name of a member, behind others, that ends in time or not.
-fn check_declared(names: &Names, earlier: &[CMember], member: &CMember, ends: bool, walk: &mut Walk)
-    ensures { Walks walk.old walk.new (object_text member.now.base member.now.name) (member_asks (names_view names.now) earlier.now ends walk.old.at member.now) }
+fn check_declared(
+    names: &Names,
+    members: &MemberTable,
+    earlier: usize,
+    member: &CMember,
+    ends: bool,
+    walk: &mut Walk,
+)
+    ensures { Walks walk.old walk.new (object_text member.now.base member.now.name) (member_asks (names_view names.now) (take earlier members.now) ends walk.old.at member.now) }
 {
     let at = walk.at;
     check_base(names, &member.base, walk);
     walk.ask(at, CWhy::BadType, ends);
     walk.ask(at, CWhy::BadType, is_allowed_length(member.length));
     walk.pass(b" ");
-    let had = has_member_of(earlier, &member.name);
+    let had = members.has_before(earlier, &member.name);
     walk.ask(walk.at, CWhy::BadName, !had);
     walk.pass(member.name.as_slice());
 }
 
-fn check_member(names: &Names, earlier: &[CMember], member: &CMember, ends: bool, walk: &mut Walk)
-    ensures { Walks walk.old walk.new (member_text member.now) (member_asks (names_view names.now) earlier.now ends (behind walk.old.at (codes "  ")) member.now) }
+fn check_member(
+    names: &Names,
+    members: &MemberTable,
+    earlier: usize,
+    member: &CMember,
+    ends: bool,
+    walk: &mut Walk,
+)
+    ensures { Walks walk.old walk.new (member_text member.now) (member_asks (names_view names.now) (take earlier members.now) ends (behind walk.old.at (codes "  ")) member.now) }
 {
     walk.pass(b"  ");
-    check_declared(names, earlier, member, ends, walk);
+    check_declared(names, members, earlier, member, ends, walk);
     pass_length(member.length, walk);
     walk.pass(b";");
     walk.pass(b"\n");
 }
 
 /// The members of a struct, and the size of a struct of them.
-fn check_members(names: &Names, sized: &[Sized], members: &[CMember], walk: &mut Walk) -> Size
-    requires { sized_view sized.now ≡ sizes_of names.now.target names.now.structs.now }
-    ensures walks { Walks walk.old walk.new (texts (map member_text members.now)) (members_demands names.now.target names.now.structs.now [] walk.old.at members.now) }
-    ensures size { result ≡ row_size names.now.target (row_of (table [] names.now.structs.now) members.now) }
+fn check_members(names: &Names, sized: &[Size], members: &MemberTable, walk: &mut Walk) -> Size
+    requires { sized_view (structs_view names.now.structs) sized.now ≡ sizes_of names.now.target (structs_view names.now.structs) }
+    ensures walks { Walks walk.old walk.new (texts (map member_text members.now)) (members_demands names.now.target (structs_view names.now.structs) [] walk.old.at members.now) }
+    ensures size { result ≡ row_size names.now.target (row_of (table [] (structs_view names.now.structs)) members.now) }
 {
     let mut end = 0;
     let mut align = 1;
     for i in 0..members.len() {
-        let member = &members[i];
-        let size = member_size(names.target, sized, member);
+        let member = members.at(i);
+        let size = member_size(names.target, &names.structs, sized, member);
         end = end_of(end, &size);
         align = larger(align, size.align);
-        check_member(names, &members[..i], member, is_in_time(end), walk);
+        check_member(names, members, i, member, is_in_time(end), walk);
     }
     Size {
         bytes: rounded(end, align),
@@ -115,18 +117,24 @@ fn is_in_time(end: u64) -> bool
 }
 
 /// A struct behind those that are in scope, and its size.
-pub fn check_struct(names: &Names, sized: &[Sized], declared: &CStruct, walk: &mut Walk) -> Size
-    requires { sized_view sized.now ≡ sizes_of names.now.target names.now.structs.now }
-    ensures walks { Walks walk.old walk.new (struct_text declared.now) (struct_demands names.now.target names.now.structs.now walk.old.at declared.now) }
-    ensures size { result ≡ row_size names.now.target (row_of (table [] names.now.structs.now) declared.now.members) }
+pub fn check_struct(
+    names: &Names,
+    sized: &[Size],
+    tag: &Word,
+    members: &MemberTable,
+    walk: &mut Walk,
+) -> Size
+    requires { sized_view (structs_view names.now.structs) sized.now ≡ sizes_of names.now.target (structs_view names.now.structs) }
+    ensures walks { Walks walk.old walk.new (struct_text (struct_named tag.now members.now)) (struct_demands names.now.target (structs_view names.now.structs) walk.old.at (struct_named tag.now members.now)) }
+    ensures size { result ≡ row_size names.now.target (row_of (table [] (structs_view names.now.structs)) members.now) }
 {
     walk.pass(b"struct ");
-    let had = names.is_tag(&declared.name);
+    let had = names.is_tag(tag);
     walk.ask(walk.at, CWhy::BadName, !had);
-    walk.pass(declared.name.as_slice());
+    walk.pass(tag.as_slice());
     walk.pass(b" {");
     walk.pass(b"\n");
-    let size = check_members(names, sized, declared.members.as_slice(), walk);
+    let size = check_members(names, sized, members, walk);
     walk.pass(b"};\n");
     size
 }

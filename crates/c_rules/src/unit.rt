@@ -8,28 +8,27 @@ ghost use Rattle.c_text.specs.TypeText.{texts};
 ghost use Rattle.c_text.specs.UnitRules.{extern_demands, file_scope, function_demands, unit_demands};
 ghost use Rattle.c_rules.specs.Kept.{ButObjects, OthersStay};
 ghost use Rattle.c_scopes.specs.Scope.{names_view, stop_alone};
-ghost use Rattle.c_rules.specs.Sizes.{sized_view, sizes_of};
+ghost use Rattle.c_scopes.specs.StructViews.{structs_view};
 ghost use Rattle.c_rules.specs.UnitRows.{behind_externs, extern_rows, functions_asks, objects_asks, structs_asks, with_extern, with_function, with_objects};
 ghost use Rattle.c_scopes.specs.Walks.{Walks};
 
 use crate::decl::declare_function;
 use crate::declarations::{check_extern, check_file_object, check_function};
-use crate::sizes::Sized;
 use crate::structs::check_struct;
-use c_ast::{CExtern, CFunction, CObject, CStruct, CUnit, Target};
-use c_scopes::{Names, Signature, Walk};
+use c_ast::{CExtern, CFunction, CObject, CUnit, Target};
+use c_scopes::{Names, Signature, StructTable, Structs, Walk, all_structs};
 use c_text::CFault;
 use iv_words::{Memory, Seq};
-use name_tables::NameTable;
+use name_tables::{NameTable, ScopeTable};
 use std::alloc::Global;
 
 /// The names of file scope behind these structs.
-fn names_behind<'u>(alloc: Global, target: Target, structs: &'u [CStruct]) -> Names<'u>
+fn names_behind<'u>(alloc: Global, target: Target, structs: Structs<'u>) -> Names<'u>
     ensures target { result.target ≡ target }
-    ensures structs { result.structs.now ≡ structs.now }
+    ensures structs { result.structs ≡ structs.entry }
     ensures itself { result.itself ≡ None }
     ensures values { result.values ≡ [] }
-    ensures view { names_view result ≡ file_scope structs.now stop_alone [] }
+    ensures view { names_view result ≡ file_scope (structs_view structs.entry) stop_alone [] }
 {
     Names {
         target,
@@ -37,27 +36,36 @@ fn names_behind<'u>(alloc: Global, target: Target, structs: &'u [CStruct]) -> Na
         functions: NameTable::new(alloc),
         objects: NameTable::new(alloc),
         itself: None,
-        values: Seq::new(alloc),
+        values: ScopeTable::new(alloc),
     }
 }
 
 fn check_structs(
     alloc: Global,
     target: Target,
-    structs: &[CStruct],
+    table: &StructTable,
     walk: &mut Walk,
 ) -> Result<(), Memory>
-    ensures { OnOk result (Walks walk.old walk.new (texts (map struct_text structs.now)) (structs_asks target [] walk.old.at structs.now)) }
+    ensures { OnOk result (Walks walk.old walk.new (texts (map struct_text table.now)) (structs_asks target [] walk.old.at table.now)) }
 {
     let mut sized = Seq::new(alloc);
-    for i in 0..structs.len() {
-        let declared = &structs[i];
-        let names = names_behind(alloc, target, &structs[..i]);
-        let size = check_struct(&names, sized.as_slice(), declared, walk);
-        sized.push(Sized {
-            tag: &declared.name,
-            size,
-        })?;
+    for i in 0..table.len() {
+        let names = names_behind(
+            alloc,
+            target,
+            Structs {
+                table: &*table,
+                count: i,
+            },
+        );
+        let size = check_struct(
+            &names,
+            sized.as_slice(),
+            table.tag(i),
+            table.members(i),
+            walk,
+        );
+        sized.push(size)?;
     }
     Ok(())
 }
@@ -143,16 +151,47 @@ fn pass_fixed(walk: &mut Walk)
     walk.pass(b"#include <stdint.h>\n#include <stdbool.h>\nextern void ivory_stop(uint32_t);\n");
 }
 
+/// A unit with its structs in a table.
+fn check_tabled<'u>(
+    alloc: Global,
+    unit: &'u CUnit,
+    table: &'u StructTable<'u>,
+    target: Target,
+    walk: &mut Walk,
+) -> Result<(), Memory>
+    requires start { walk.old.at ≡ 0 }
+    requires tabled { table.now ≡ unit.now.structs }
+    ensures { OnOk result (Walks walk.old walk.new (unit_text (unit_of unit.now)) (unit_demands target (unit_of unit.now))) }
+{
+    pass_fixed(walk);
+    check_structs(alloc, target, table, walk)?;
+    let mut names = names_behind(alloc, target, all_structs(table));
+    check_externs(&mut names, unit.externs.as_slice(), walk)?;
+    check_objects(&mut names, unit.objects.as_slice(), walk)?;
+    check_functions(&mut names, unit.functions.as_slice(), walk)
+}
+
+/// The same, with the unit and its table lent for as long as the names of both are held.
+fn check_lent(
+    alloc: Global,
+    unit: &CUnit,
+    table: &StructTable,
+    target: Target,
+    walk: &mut Walk,
+) -> Result<(), Memory>
+    requires start { walk.old.at ≡ 0 }
+    requires tabled { table.now ≡ unit.now.structs }
+    ensures { OnOk result (Walks walk.old walk.new (unit_text (unit_of unit.now)) (unit_demands target (unit_of unit.now))) }
+{
+    check_tabled(alloc, &*unit, &*table, target, walk)
+}
+
 fn check_unit(alloc: Global, unit: &CUnit, target: Target, walk: &mut Walk) -> Result<(), Memory>
     requires { walk.old.at ≡ 0 }
     ensures { OnOk result (Walks walk.old walk.new (unit_text (unit_of unit.now)) (unit_demands target (unit_of unit.now))) }
 {
-    pass_fixed(walk);
-    check_structs(alloc, target, unit.structs.as_slice(), walk)?;
-    let mut names = names_behind(alloc, target, unit.structs.as_slice());
-    check_externs(&mut names, unit.externs.as_slice(), walk)?;
-    check_objects(&mut names, unit.objects.as_slice(), walk)?;
-    check_functions(&mut names, unit.functions.as_slice(), walk)
+    let table = StructTable::new(alloc, unit.structs.as_slice())?;
+    check_lent(alloc, unit, &table, target, walk)
 }
 
 /// The first place of a unit's text that breaks a rule of names or of types, or none where its names and types are right. Of two that

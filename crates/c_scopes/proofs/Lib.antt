@@ -1,3 +1,4 @@
 pub mod Walks
 pub mod Rows
 pub mod ScopeLists
+pub mod FoundPlaces

@@ -1,32 +1,22 @@
 -- One more declaration behind others.
-use Rattle.std.proofs.Common.{◌≡◌, refl, sym, ◌∙◌, ap, ℕ, ◌+◌, ◌<◌, Bool, true, false, List, [], ◌∷◌, ◌++◌, append_assoc, length, take, get_or, Option, Some, None, if◌then◌else◌}
+use Rattle.std.proofs.Common.{◌≡◌, refl, sym, ◌∙◌, ap, Bool, true, false, List, [], ◌∷◌, ◌++◌, Option, Some, None, if◌then◌else◌}
 use Rattle.std.specs.Prelude.{map}
 use Rattle.std.specs.Option.{option_map}
-use Rattle.std.proofs.lemmas.List.{take_more}
+use Rattle.std.proofs.lemmas.List.{map-append}
 use Rattle.iv_words.specs.Words.{same_word}
 use Rattle.name_tables.specs.Latest.{latest}
+use Rattle.name_tables.specs.Scoped.{latest_first}
+use Rattle.name_tables.proofs.Shadowings.{first_is_latest}
 use Rattle.c_ast.specs.Names.{named}
 use Rattle.c_ast.specs.Signatures.{Signature}
 use Rattle.c_ast.specs.StaticTypes.{Entity}
 use Rattle.c_ast.specs.Syntax.{Name}
 use Rattle.c_scopes.specs.declared.names.Entity as borrowed
-use Rattle.c_scopes.specs.declared.names.Entry.{Entry}
 use Rattle.c_scopes.specs.declared.names.Signature as called
-use Rattle.c_scopes.specs.Scope.{entity_view, entity_entry, entity_found, signature_view, signature_entry, signature_found, stop_alone, with_values, functions_view, values_view}
+use Rattle.c_scopes.specs.Scope.{entity_view, entity_entry, entity_found, signature_view, signature_entry, signature_found, stop_alone, functions_view, values_view}
 
-pub values_push : (vs : List (Name × Entity)) (es : List Entry) (e : Entry) → with_values vs (es ++ e ∷ []) ≡ (e.name.now, entity_view e.entity) ∷ with_values vs es
-values_push vs [] e = refl
-values_push vs (x ∷ es) e = values_push ((x.name.now, entity_view x.entity) ∷ vs) es e
-
-pub values_more : (vs : List (Name × Entity)) (es : List Entry) (i : ℕ) (e : Entry) → i < length es → e ≡ get_or es i e → with_values vs (take (i + 1) es) ≡ (e.name.now, entity_view e.entity) ∷ with_values vs (take i es)
-values_more vs es i e below is = ap (with_values vs) (take_more es i e below) ∙ ap (λ x. with_values vs (take i es ++ x ∷ [])) (sym is) ∙ values_push vs (take i es) e
-
--- ---- the later of two of a name
-
-pub value_later : (es : List Entry) (i : ℕ) (e : Entry) (name : Name) (found r : Option Entity) → i < length es → e ≡ get_or es i e → found ≡ named (with_values [] (take i es)) name
-    → r ≡ (if same_word e.name.now name then Some (entity_view e.entity) else found) → r ≡ named (with_values [] (take (i + 1) es)) name
-value_later es i e name found r below is so_far later =
-    later ∙ ap (λ x. if same_word e.name.now name then Some (entity_view e.entity) else x) so_far ∙ ap (λ ds. named ds name) (sym (values_more [] es i e below is))
+pub values_push : (os vs : List (Name × borrowed.Entity)) (d : Name × borrowed.Entity) → values_view os (vs ++ d ∷ []) ≡ entity_entry d ∷ values_view os vs
+values_push os vs d = ap (latest_first (map entity_entry os)) (map-append entity_entry vs (d ∷ [])) ∙ first_is_latest (map entity_entry os) (map entity_entry vs) (entity_entry d)
 
 -- ---- first these declarations, and then those before them
 
@@ -68,18 +58,19 @@ function_behind fs name found r e is stop = stop ∙ sym (found_behind (map sign
 
 -- ---- objects of file scope, and the names in a function
 
-values_on : (ds : List (Name × Entity)) (vs : List Entry) → with_values ds vs ≡ with_values [] vs ++ ds
-values_on ds [] = refl
-values_on ds (v ∷ vs) =
-    let e : Name × Entity = (v.name.now, entity_view v.entity) in
-    values_on (e ∷ ds) vs ∙ sym (append_assoc (with_values [] vs) (e ∷ []) ds) ∙ ap (λ xs. xs ++ ds) (sym (values_on (e ∷ []) vs))
+values_on : (ds : List (Name × Entity)) (later vs : List (Name × borrowed.Entity)) → latest_first (map entity_entry later ++ ds) (map entity_entry vs) ≡ map entity_entry (latest_first later vs) ++ ds
+values_on ds later [] = refl
+values_on ds later (v ∷ vs) = values_on ds (v ∷ later) vs
 
-pub entity_first : (os : List (Name × borrowed.Entity)) (vs : List Entry) (name : Name) (found : Option borrowed.Entity) (e : borrowed.Entity) → entity_found found ≡ named (with_values [] vs) name → found ≡ Some e
+pub entity_first : (os vs : List (Name × borrowed.Entity)) (name : Name) (found : Option borrowed.Entity) (e : borrowed.Entity) → found ≡ latest (latest_first [] vs) name → found ≡ Some e
     → Some (entity_view e) ≡ named (values_view os vs) name
 entity_first os vs name found e here is =
-    sym (ap (λ ds. named ds name) (values_on (map entity_entry os) vs) ∙ found_first (with_values [] vs) (map entity_entry os) name (entity_view e) (sym here ∙ ap entity_found is))
+    let ds : List (Name × borrowed.Entity) = latest_first [] vs in
+    sym (ap (λ rows. named rows name) (values_on (map entity_entry os) [] vs) ∙ found_first (map entity_entry ds) (map entity_entry os) name (entity_view e) (named_entries entity_view ds name ∙ ap entity_found (sym here ∙ is)))
 
-pub entity_behind : (os : List (Name × borrowed.Entity)) (vs : List Entry) (name : Name) (found r : Option borrowed.Entity) → entity_found found ≡ named (with_values [] vs) name → found ≡ None → r ≡ latest os name
+pub entity_behind : (os vs : List (Name × borrowed.Entity)) (name : Name) (found r : Option borrowed.Entity) → found ≡ latest (latest_first [] vs) name → found ≡ None → r ≡ latest os name
     → entity_found r ≡ named (values_view os vs) name
 entity_behind os vs name found r here is e =
-    ap entity_found e ∙ sym (ap (λ ds. named ds name) (values_on (map entity_entry os) vs) ∙ found_behind (with_values [] vs) (map entity_entry os) name (sym here ∙ ap entity_found is) ∙ named_entries entity_view os name)
+    let ds : List (Name × borrowed.Entity) = latest_first [] vs in
+    ap entity_found e
+    ∙ sym (ap (λ rows. named rows name) (values_on (map entity_entry os) [] vs) ∙ found_behind (map entity_entry ds) (map entity_entry os) name (named_entries entity_view ds name ∙ ap entity_found (sym here ∙ is)) ∙ named_entries entity_view os name)

@@ -13,13 +13,14 @@ use Rattle.c_ast.specs.Syntax.{Name}
 use Rattle.c_text.specs.Scopes as scopes
 use Rattle.c_scopes.specs.declared.names.Entity as borrowed
 use Rattle.c_scopes.specs.declared.names.Entity.TheVariants as entity
-use Rattle.c_scopes.specs.declared.names.Entry.{Entry}
 use Rattle.c_scopes.specs.declared.names.Signature as called
 use Rattle.c_scopes.specs.declared.names.Signature.TheVariants as signature
 use Rattle.c_scopes.specs.declared.names.Names.{Names}
 use Rattle.c_scopes.specs.declared.names.Params.{Params}
 use Rattle.c_scopes.specs.declared.names.Params.TheVariants as params
+use Rattle.c_scopes.specs.StructViews.{structs_view}
 use Rattle.c_scopes.specs.Views.{base_view}
+use Rattle.name_tables.specs.Scoped.{latest_first}
 
 -- ---- what names are declared as
 
@@ -30,11 +31,6 @@ entity_view (entity.Object constant b) = ObjectName constant (base_view b)
 
 abbrev pub entity_found : Option borrowed.Entity → Option Entity
 entity_found = option_map entity_view
-
--- these declarations, and behind them more, of which the latest stands last
-abbrev pub with_values : List (Name × Entity) → List Entry → List (Name × Entity)
-with_values declared [] = declared
-with_values declared (e ∷ es) = with_values ((e.name.now, entity_view e.entity) ∷ declared) es
 
 -- ---- functions
 
@@ -82,9 +78,9 @@ functions_view ds = map signature_entry ds ++ stop_alone
 abbrev pub entity_entry : Name × borrowed.Entity → Name × Entity
 entity_entry d = (d.0, entity_view d.1)
 
--- the objects of file scope, and the names in a function
-abbrev pub values_view : List (Name × borrowed.Entity) → List Entry → List (Name × Entity)
-values_view objects values = with_values (map entity_entry objects) values
+-- the objects of file scope, and the names in a function on top of them
+abbrev pub values_view : List (Name × borrowed.Entity) → List (Name × borrowed.Entity) → List (Name × Entity)
+values_view objects values = latest_first (map entity_entry objects) (map entity_entry values)
 
 -- ---- all of them
 
@@ -94,7 +90,7 @@ itself_view (Some name) = name.now ∷ []
 
 abbrev pub names_view : Names → scopes.Names
 names_view n = record {
-  structs = n.structs.now;
+  structs = structs_view n.structs;
   functions = functions_view n.functions;
   itself = itself_view n.itself;
   values = values_view n.objects n.values;

@@ -7,12 +7,14 @@ use Rattle.c_scopes.specs.declared.shapes.Shape.{Shape}
 use Rattle.c_scopes.specs.declared.shapes.Shape.TheVariants as shape
 use Rattle.c_scopes.specs.declared.shapes.PlaceType as borrowed
 use Rattle.c_scopes.specs.declared.shapes.PlaceType.TheVariants as place
+use Rattle.c_scopes.specs.StructViews.{structs_view}
+use Rattle.c_scopes.specs.Tables.{members_view}
 use Rattle.c_scopes.specs.Views.{base_view}
 
 abbrev pub shape_view : Shape → CTree
 shape_view (shape.Scalar s) = trees.Leaf s
-shape_view (shape.Array n b structs) = trees.Many n (tree structs.now (base_view b))
-shape_view (shape.Struct tag members structs) = trees.Struct tag.now (row_of (table [] structs.now) members.now)
+shape_view (shape.Array n b structs) = trees.Many n (tree (structs_view structs) (base_view b))
+shape_view (shape.Struct tag members structs) = trees.Struct tag.now (row_of (table [] (structs_view structs)) (members_view members))
 
 abbrev pub place_view : borrowed.PlaceType → Option PlaceType
 place_view place.Unknown = None

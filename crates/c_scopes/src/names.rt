@@ -1,21 +1,23 @@
 //! The names that are in scope at a place of a unit.
 
-ghost use Rattle.std.specs.Prelude.{◌≡◌, [], is_some, length, map, if◌then◌else◌};
+ghost use Rattle.std.specs.Prelude.{◌≡◌, is_some, length, map, if◌then◌else◌};
 ghost use Rattle.std.specs.List.{list_any};
 ghost use Rattle.std.specs.Option.{option_map};
 ghost use Rattle.iv_words.specs.Words.{same_word};
 ghost use Rattle.c_ast.specs.Names.{named};
 ghost use Rattle.c_ast.specs.StaticTypes as static_types;
 ghost use Rattle.c_text.specs.Scopes as scopes;
-ghost use Rattle.c_scopes.specs.Scope.{entity_view, entity_found, params_view, first_type, rest_types, signature_view, signature_found, stop_alone, with_values, functions_view, values_view, names_view};
+ghost use Rattle.c_scopes.specs.Scope.{entity_view, entity_found, params_view, first_type, rest_types, signature_view, signature_found, stop_alone, functions_view, values_view, names_view};
 ghost use Rattle.c_scopes.specs.Shapes.{place_view};
+ghost use Rattle.c_scopes.specs.StructViews.{structs_view};
 ghost use Rattle.c_scopes.specs.Views.{type_view};
 
 use crate::shapes::{PlaceType, shape_of};
+use crate::structs::Structs;
 use crate::types::{Base, Wanted, wanted_of};
-use c_ast::{CExtern, CFunction, CKind, CParam, CScalar, CStruct, CType, Target};
-use iv_words::{IntKind, Seq, Word};
-use name_tables::NameTable;
+use c_ast::{CExtern, CFunction, CKind, CParam, CScalar, CType, Target};
+use iv_words::{IntKind, Word};
+use name_tables::{NameTable, ScopeTable};
 
 /// What a name is declared as: a value that it holds for good, or an object with its `const`.
 #[derive(Clone, Copy, Drop)]
@@ -23,12 +25,6 @@ pub enum Entity<'u> {
     Number(CScalar),
     Pointer(bool, Base<'u>),
     Object(bool, Base<'u>),
-}
-
-#[derive(Clone, Copy, Drop)]
-pub struct Entry<'u> {
-    pub name: &'u Word,
-    pub entity: Entity<'u>,
 }
 
 /// A function that can be called: `ivory_stop`, or one that the unit declares.
@@ -44,45 +40,23 @@ pub enum Signature<'u> {
 #[derive(Drop)]
 pub struct Names<'u> {
     pub target: Target,
-    pub structs: &'u [CStruct],
+    pub structs: Structs<'u>,
     pub functions: NameTable<'u, Signature<'u>>,
     pub objects: NameTable<'u, Entity<'u>>,
     pub itself: Option<&'u Word>,
-    pub values: Seq<Entry<'u>>,
-}
-
-/// The later of two entities of a name, if the later one is declared by this entry.
-fn later_entity<'u>(found: Option<Entity<'u>>, entry: &Entry<'u>, name: &Word) -> Option<Entity<'u>>
-    ensures { entity_found result ≡ (if same_word entry.now.name.now name.now then Some (entity_view entry.now.entity) else entity_found found.entry) }
-{
-    if *entry.name == *name {
-        Some(entry.entity)
-    } else {
-        found
-    }
-}
-
-/// What a name was declared as last among these.
-fn local_entity<'u>(values: &[Entry<'u>], name: &Word) -> Option<Entity<'u>>
-    ensures { entity_found result ≡ named (with_values [] values.now) name.now }
-{
-    let mut found = None;
-    for entry in values {
-        found = later_entity(found, entry, name);
-    }
-    found
+    pub values: ScopeTable<'u, Entity<'u>>,
 }
 
 /// What a name was declared as last, save a function.
 #[tactic(auto, using(crate::proofs::ScopeLists::entity_first, crate::proofs::ScopeLists::entity_behind))]
 fn latest_entity<'u>(
     objects: &NameTable<'u, Entity<'u>>,
-    values: &[Entry<'u>],
+    values: &ScopeTable<'u, Entity<'u>>,
     name: &Word,
 ) -> Option<Entity<'u>>
     ensures { entity_found result ≡ named (values_view objects.now values.now) name.now }
 {
-    match local_entity(values, name) {
+    match values.find(name) {
         Some(entity) => Some(entity),
         None => objects.find(name),
     }
@@ -111,17 +85,6 @@ fn latest_function<'u>(
         Some(signature) => Some(signature),
         None => stop_found(name),
     }
-}
-
-fn has_tag(structs: &[CStruct], tag: &Word) -> bool
-    ensures { result ≡ list_any (λ s. same_word s.name tag.now) structs.now }
-{
-    for declared in structs {
-        if declared.name == *tag {
-            return true;
-        }
-    }
-    false
 }
 
 impl<'u> Signature<'u> {
@@ -229,8 +192,8 @@ fn rest_of_params<'u>(params: &'u [CParam]) -> Params<'u>
 }
 
 /// The type of a place that is named.
-fn of_entity<'u>(structs: &'u [CStruct], entity: &Entity<'u>) -> PlaceType<'u>
-    ensures { place_view result ≡ Some (static_types.of_entity structs.now (entity_view entity.now)) }
+fn of_entity<'u>(structs: Structs<'u>, entity: &Entity<'u>) -> PlaceType<'u>
+    ensures { place_view result ≡ Some (static_types.of_entity (structs_view structs.entry) (entity_view entity.now)) }
 {
     match entity {
         Entity::Number(scalar) => PlaceType::HeldNumber(CKind::Scalar(*scalar)),
@@ -244,7 +207,7 @@ impl<'u> Names<'u> {
     pub fn entity(&self, name: &Word) -> Option<Entity<'u>>
         ensures { entity_found result ≡ named (names_view self.now).values name.now }
     {
-        latest_entity(&self.objects, self.values.as_slice(), name)
+        latest_entity(&self.objects, &self.values, name)
     }
 
     /// The function of a name that can be called.
@@ -285,7 +248,7 @@ impl<'u> Names<'u> {
 
     /// The type of a place that a name gives, which at file scope has none.
     pub fn place_of(&self, entity: &Option<Entity<'u>>) -> PlaceType<'u>
-        ensures { place_view result ≡ option_map (static_types.of_entity self.now.structs.now) (if is_some self.now.itself then entity_found entity.now else None) }
+        ensures { place_view result ≡ option_map (static_types.of_entity (structs_view self.now.structs)) (if is_some self.now.itself then entity_found entity.now else None) }
     {
         match self.itself {
             None => PlaceType::Unknown,
@@ -299,6 +262,6 @@ impl<'u> Names<'u> {
     pub fn is_tag(&self, tag: &Word) -> bool
         ensures { result ≡ scopes.is_tag (names_view self.now) tag.now }
     {
-        has_tag(self.structs, tag)
+        self.structs.has(tag)
     }
 }

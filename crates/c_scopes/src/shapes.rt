@@ -1,26 +1,29 @@
 //! Types of objects and their parts: what a tag stands for is looked up in the unit, and nothing is written out.
 
-ghost use Rattle.std.specs.Prelude.{◌≡◌, [], ◌<◌, length, is_some, IfSome};
+ghost use Rattle.std.specs.Prelude.{◌≡◌, [], is_some};
 ghost use Rattle.std.specs.Option.{option_map, option_and_then};
-ghost use Rattle.c_ast.specs.Places.{place_from};
 ghost use Rattle.c_ast.specs.StaticTypes as static_types;
 ghost use Rattle.c_ast.specs.Structs.{row_of, table, times, tree};
 ghost use Rattle.c_text.specs.Rules.{where_typed};
 ghost use Rattle.c_text.specs.ExpressionRules as rules;
 ghost use Rattle.c_scopes.specs.Views.{base_view, value_view};
 ghost use Rattle.c_scopes.specs.Shapes.{shape_view, place_view};
+ghost use Rattle.c_scopes.specs.StructViews.{structs_view};
+ghost use Rattle.c_scopes.specs.Tables.{members_view};
 
+use crate::structs::Structs;
+use crate::tables::MemberTable;
 use crate::types::{Base, ValueType, base_of};
-use c_ast::{CKind, CMember, CScalar, CStruct};
+use c_ast::{CKind, CScalar};
 use iv_words::Word;
 
-/// The type of an object or a part: an array of so many elements of a base, or a struct of its name and its members; with both go
-/// the structs that their tags are looked up in.
+/// The type of an object or a part: an array of so many elements of a base, or a struct of its name and its members, if it is there;
+/// with both go the structs that their tags are looked up in.
 #[derive(Clone, Copy, Drop)]
 pub enum Shape<'u> {
     Scalar(CScalar),
-    Array(u32, Base<'u>, &'u [CStruct]),
-    Struct(&'u Word, &'u [CMember], &'u [CStruct]),
+    Array(u32, Base<'u>, Structs<'u>),
+    Struct(&'u Word, Option<&'u MemberTable<'u>>, Structs<'u>),
 }
 
 /// The type of a place, or that it has none: of a name that holds a value, or of an object with its `const`.
@@ -32,38 +35,29 @@ pub enum PlaceType<'u> {
     Stored(bool, Shape<'u>),
 }
 
-/// The place of the first struct of a tag.
-fn find(structs: &[CStruct], tag: &Word) -> Option<usize>
-    ensures place { result ≡ place_from 0 structs.now tag.now }
-    ensures within { IfSome result (λ k. k < length structs.now) }
-{
-    for i in 0..structs.len() {
-        if structs[i].name == *tag {
-            return Some(i);
-        }
-    }
-    None
-}
-
 /// The type that a base stands for behind these structs.
-pub fn shape_of<'u>(structs: &'u [CStruct], base: &Base<'u>) -> Shape<'u>
-    ensures { shape_view result ≡ tree structs.now (base_view base.now) }
+pub fn shape_of<'u>(structs: Structs<'u>, base: &Base<'u>) -> Shape<'u>
+    ensures { shape_view result ≡ tree (structs_view structs.entry) (base_view base.now) }
 {
     match base {
         Base::Scalar(scalar) => Shape::Scalar(*scalar),
-        Base::Struct(tag) => match find(structs, tag) {
-            Some(k) => {
-                let found = &structs[k];
-                Shape::Struct(&found.name, found.members.as_slice(), &structs[..k])
-            }
-            None => Shape::Struct(tag, &[], structs),
+        Base::Struct(tag) => match structs.find(tag) {
+            Some(k) => Shape::Struct(
+                structs.table.tag(k),
+                Some(structs.table.members(k)),
+                Structs {
+                    table: structs.table,
+                    count: k,
+                },
+            ),
+            None => Shape::Struct(tag, None, structs),
         },
     }
 }
 
 /// An array of it, where there is a length.
-pub fn times_shape<'u>(length: Option<u32>, structs: &'u [CStruct], base: &Base<'u>) -> Shape<'u>
-    ensures { shape_view result ≡ times length (tree structs.now (base_view base.now)) }
+pub fn times_shape<'u>(length: Option<u32>, structs: Structs<'u>, base: &Base<'u>) -> Shape<'u>
+    ensures { shape_view result ≡ times length (tree (structs_view structs.entry) (base_view base.now)) }
 {
     match length {
         None => shape_of(structs, base),
@@ -72,26 +66,38 @@ pub fn times_shape<'u>(length: Option<u32>, structs: &'u [CStruct], base: &Base<
 }
 
 /// The type of the first member of a name.
-fn member_shape<'u>(
-    structs: &'u [CStruct],
-    members: &'u [CMember],
+fn found_member<'u>(
+    structs: Structs<'u>,
+    members: &'u MemberTable<'u>,
     name: &Word,
 ) -> Option<Shape<'u>>
-    ensures { option_map shape_view result ≡ static_types.member_tree (row_of (table [] structs.now) members.now) name.now }
+    ensures { option_map shape_view result ≡ static_types.member_tree (row_of (table [] (structs_view structs.entry)) members.now) name.now }
 {
-    for m in members {
-        if m.name == *name {
-            return Some(times_shape(m.length, structs, &base_of(&m.base)));
-        }
+    match members.find(name) {
+        None => None,
+        Some(m) => Some(times_shape(m.length, structs, &base_of(&m.base))),
     }
-    None
+}
+
+/// The same, where there are members.
+fn member_shape<'u>(
+    structs: Structs<'u>,
+    members: Option<&'u MemberTable<'u>>,
+    name: &Word,
+) -> Option<Shape<'u>>
+    ensures { option_map shape_view result ≡ static_types.member_tree (row_of (table [] (structs_view structs.entry)) (members_view members.entry)) name.now }
+{
+    match members {
+        None => None,
+        Some(members) => found_member(structs, members, name),
+    }
 }
 
 // ---- places
 
 /// `*` of a pointer.
-pub fn of_pointee<'u>(structs: &'u [CStruct], value: &ValueType<'u>) -> PlaceType<'u>
-    ensures { place_view result ≡ option_and_then (static_types.of_pointee structs.now) (value_view value.now) }
+pub fn of_pointee<'u>(structs: Structs<'u>, value: &ValueType<'u>) -> PlaceType<'u>
+    ensures { place_view result ≡ option_and_then (static_types.of_pointee (structs_view structs.entry)) (value_view value.now) }
 {
     match value {
         ValueType::Pointer(constant, base) => {
@@ -120,7 +126,7 @@ pub fn of_member<'u>(name: &Word, place: &PlaceType<'u>) -> PlaceType<'u>
         PlaceType::Stored(constant, shape) => match shape {
             Shape::Scalar(_) | Shape::Array(_, _, _) => PlaceType::Unknown,
             Shape::Struct(_, members, structs) => {
-                stored(*constant, member_shape(structs, members, name))
+                stored(*constant, member_shape(*structs, *members, name))
             }
         },
     }
@@ -142,7 +148,7 @@ fn of_stored_element<'u>(constant: bool, shape: &Shape<'u>, index: &ValueType<'u
 {
     match shape {
         Shape::Array(_, base, structs) => match index {
-            ValueType::Number(_) => PlaceType::Stored(constant, shape_of(structs, base)),
+            ValueType::Number(_) => PlaceType::Stored(constant, shape_of(*structs, base)),
             ValueType::Unknown | ValueType::Pointer(_, _) => PlaceType::Unknown,
         },
         Shape::Scalar(_) => match index {
@@ -221,7 +227,7 @@ pub fn has_member(name: &Word, place: &PlaceType) -> bool
         PlaceType::Unknown | PlaceType::HeldNumber(_) | PlaceType::HeldPointer(_, _) => true,
         PlaceType::Stored(_, shape) => match shape {
             Shape::Scalar(_) | Shape::Array(_, _, _) => true,
-            Shape::Struct(_, members, structs) => member_shape(structs, members, name).is_some(),
+            Shape::Struct(_, members, structs) => member_shape(*structs, *members, name).is_some(),
         },
     }
 }

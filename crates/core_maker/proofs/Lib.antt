@@ -7,3 +7,4 @@ pub mod Begun
 pub mod Agreed
 pub mod Wanted
 pub mod Listed
+pub mod Callees

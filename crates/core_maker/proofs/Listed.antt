@@ -1,5 +1,5 @@
 -- Lists that are made one after another.
-use Rattle.std.proofs.Common.{◌≡◌, ℕ, ◌+◌, ◌<◌, ◌≤◌, List, [], ◌∷◌, ◌++◌, map, filter, length, get_or, drop, drop-cons, add-one, Bool, true, false, Option, refl, sym, ◌∙◌, ap, ap₂}
+use Rattle.std.proofs.Common.{◌≡◌, ℕ, ◌+◌, ◌<◌, ◌≤◌, List, [], ◌∷◌, ◌++◌, map, length, get_or, drop, drop-cons, add-one, Bool, true, false, Option, refl, sym, ◌∙◌, ap, ap₂}
 use Rattle.std.proofs.lemmas.List.{append-nil, drop_all, nil_from_length}
 use Rattle.ivory_tree.specs.Syntax as syntax
 use Rattle.ivory_tree.specs.Syntax.{ExprSyntax, InitsSyntax}
@@ -15,12 +15,11 @@ use Rattle.area_types.specs.declared.FieldDef.{FieldDef}
 use Rattle.core_tree.specs.View.{expr_of, init_of, inits_of}
 use Rattle.core_tree.specs.declared.CoreExpr.{CoreExpr}
 use Rattle.core_tree.specs.declared.CoreInit.{CoreInit}
-use Rattle.source_types.specs.Environments.{Callee}
-use Rattle.typing_rules.specs.Environments.{Env, of_kind}
+use Rattle.typing_rules.specs.Environments.{Env}
 use Rattle.typing_rules.specs.ExpressionCores.{core_of}
 use Rattle.typing_rules.specs.StatementCores.{args_core, init_core, elements_core, fields_core}
 use Rattle.check_numbers.specs.NumberedParts.{exprs_from, exprs_after, init_from, init_after, inits_from, inits_after}
-use Rattle.core_maker.specs.Initializers.{cell_want, ended, kind_of}
+use Rattle.core_maker.specs.Initializers.{cell_want, ended}
 
 pub no_arguments : (env : Env) (params : List (Option ValueType)) → args_core env params [] ≡ []
 no_arguments env [] = refl
@@ -45,10 +44,6 @@ ended_pushed (x ∷ is) i rest = ap (core.MoreInits (init_of x)) (ended_pushed i
 pub ended_all : (is : List CoreInit) → ended (map init_of is) core.NoInits ≡ inits_of is
 ended_all [] = refl
 ended_all (x ∷ is) = ap (core.MoreInits (init_of x)) (ended_all is)
-
-pub of_kind_is : (import : Bool) (cs : List Callee) → of_kind import cs ≡ filter (kind_of import) cs
-of_kind_is true cs = refl
-of_kind_is false cs = refl
 
 pub init_one : (env : Env) (area : Area) (e : ExprSyntax) → init_core env area (syntax.One e) ≡ core.One (core_of env (cell_want area) e)
 init_one env (types.Stored t) e = refl

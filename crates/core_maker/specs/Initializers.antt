@@ -1,9 +1,8 @@
--- What an expression for an area is wanted as, the fields of a struct, and the callees of a kind.
-use Rattle.std.specs.Prelude.{ℕ, Bool, not, if◌then◌else◌, List, [], ◌∷◌, slice_get}
+-- What an expression for an area is wanted as, and the fields of a struct.
+use Rattle.std.specs.Prelude.{ℕ, List, [], ◌∷◌, slice_get}
 use Rattle.area_types.specs.Syntax as types
 use Rattle.area_types.specs.Syntax.{ValueType, Area}
 use Rattle.core_tree.specs.Syntax.{InitCore, InitsCore, MoreInits}
-use Rattle.source_types.specs.Environments.{Callee}
 use Rattle.typing_rules.specs.Environments.{Env}
 use Rattle.typing_rules.specs.ExpressionCores.{any_type}
 use Rattle.typing_rules.specs.StatementCores.{fields_of}
@@ -20,7 +19,3 @@ fields_at env k = fields_of (slice_get env.earlier.structs k)
 abbrev pub ended : List InitCore → InitsCore → InitsCore
 ended [] rest = rest
 ended (i ∷ is) rest = MoreInits i (ended is rest)
-
--- an import, or a procedure
-abbrev pub kind_of : (import : Bool) → Callee → Bool
-kind_of import c = if import then c.import else not c.import

@@ -10,7 +10,6 @@ ghost use Rattle.typing_rules.specs.Environments as typing;
 ghost use Rattle.typing_rules.specs.ExpressionCores.{type_or};
 ghost use Rattle.typing_rules.specs.StatementCores as cores;
 ghost use Rattle.check_numbers.specs.NumberedParts.{exprs_from, exprs_after, call_from, call_after};
-ghost use Rattle.core_maker.specs.Initializers.{kind_of};
 ghost use Rattle.core_maker.specs.Places.{env_of, Agrees};
 
 use crate::expressions::expression;
@@ -23,27 +22,15 @@ use ivory_tree::{CallText, Expr};
 use rule_checker::{CalleeEntry, Items, TypeRef, callee_named};
 use std::alloc::Global;
 
-fn is_of_kind(entry: &CalleeEntry, import: bool) -> bool
-    ensures { result ≡ kind_of import (callee_entry_of entry.now) }
-{
-    if import { entry.import } else { !entry.import }
-}
-
 /// The number of the import or the procedure among those of its kind.
-#[tactic(auto, using(crate::proofs::Listed::of_kind_is))]
 fn callee_number(items: &Items, callee: &CalleeEntry) -> Option<usize>
     ensures { result ≡ typing.callee_number (earlier_of items.now) (callee_entry_of callee.now) }
 {
-    let mut count: usize = 0;
-    for entry in items.callees.iter() {
-        if is_of_kind(entry, callee.import) {
-            if entry.name == callee.name {
-                return Some(count);
-            }
-            count += 1;
-        }
+    if callee.import {
+        items.callee_names.imports.position(&callee.name)
+    } else {
+        items.callee_names.procedures.position(&callee.name)
     }
-    None
 }
 
 /// What the argument for this parameter is wanted as.

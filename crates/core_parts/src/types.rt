@@ -287,10 +287,5 @@ pub fn field_type<'a>(items: &'a Items, t: TypeRef<'a>, name: &Word) -> TypeRef<
 pub fn area_position(items: &Items, name: &Word) -> Option<usize>
     ensures { result ≡ typing.area_number (earlier_of items.now) name.now }
 {
-    for (at, entry) in items.areas.iter().enumerate() {
-        if entry.name == *name {
-            return Some(at);
-        }
-    }
-    None
+    items.area_names.position(name)
 }

@@ -16,8 +16,9 @@ use bit_data::BitLayout;
 use core_maker::Place;
 use core_tree::{CoreArea, CoreImport, CoreProc};
 use item_rules::declare;
-use iv_words::{Memory, Seq, Word};
+use iv_words::{Memory, Seq};
 use ivory_tree::{AreaItem, BitsItem, Header, Item, ProcItem};
+use name_lists::NameList;
 use rule_checker::{Context, no_items};
 use std::alloc::Global;
 
@@ -86,7 +87,7 @@ fn add_item(alloc: Global, making: &mut Making, item: &Item) -> Result<(), Memor
 }
 
 /// Before the first item of a module in which these are the names of areas, imports and procedures.
-fn nothing_made(alloc: Global, names: Seq<Word>) -> Making
+fn nothing_made(alloc: Global, names: NameList) -> Making
     ensures { so_far result ≡ makings.nothing_made names }
 {
     let context = Context {
@@ -128,7 +129,7 @@ fn add_items(alloc: Global, making: &mut Making, items: &[Item]) -> Result<(), M
 }
 
 /// The cores of all items of a module in which these are the names of areas, imports and procedures.
-pub fn item_cores(alloc: Global, names: Seq<Word>, items: &[Item]) -> Result<Making, Memory>
+pub fn item_cores(alloc: Global, names: NameList, items: &[Item]) -> Result<Making, Memory>
     requires { All FormedItem (map text.item_of items.now) }
     ensures { IfOk result (λ making. so_far making ≡ with_items (makings.nothing_made names) (map text.item_of items.now)) }
 {

@@ -82,14 +82,14 @@ fn declare_struct(alloc: Global, items: &mut Items, item: &StructItem) -> Result
     ensures { OnOk result (earlier_of items.new ≡ with_struct (earlier_of items.old) (struct_of item.now)) }
 {
     let found = struct_in(alloc, &*items, item)?;
-    add_struct(items, found)
+    add_struct(alloc, items, found)
 }
 
 fn declare_area(alloc: Global, items: &mut Items, item: &AreaItem) -> Result<(), Memory>
     ensures { OnOk result (earlier_of items.new ≡ with_global (earlier_of items.old) (global_of item.now)) }
 {
     let entry = area_entry(alloc, &*items, item)?;
-    add_area(items, entry)
+    add_area(alloc, items, entry)
 }
 
 fn declare_callee(
@@ -101,7 +101,7 @@ fn declare_callee(
     ensures { OnOk result (earlier_of items.new ≡ with_callee (earlier_of items.old) import (header_of header.now)) }
 {
     let entry = callee_entry(alloc, &*items, import, header)?;
-    add_callee(items, entry)
+    add_callee(alloc, items, entry)
 }
 
 /// Adds what an item declares.
@@ -109,7 +109,7 @@ pub fn declare(alloc: Global, items: &mut Items, item: &Item) -> Result<(), Memo
     ensures { OnOk result (earlier_of items.new ≡ after (earlier_of items.old) (item_of item.now)) }
 {
     match item {
-        Item::Bits(item) => add_bits(items, item.copy(alloc)?),
+        Item::Bits(item) => add_bits(alloc, items, item.copy(alloc)?),
         Item::Struct(item) => declare_struct(alloc, items, item),
         Item::Area(item) => declare_area(alloc, items, item),
         Item::Import(header) => declare_callee(alloc, items, true, header),

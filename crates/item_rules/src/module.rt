@@ -14,28 +14,29 @@ ghost use Rattle.item_rules.specs.Names.{names_of};
 use crate::declaring::declare;
 use crate::items::{item_fault, leave_item};
 use alloc_effects::Allowed;
-use iv_words::{Memory, Seq, Word};
+use iv_words::{Memory, Seq};
 use ivory_tree::{Item, Module};
+use name_lists::NameList;
 use rule_checker::{Context, RuleFault, no_items};
 use std::alloc::Global;
 
 /// Adds the name of an area, an import or a procedure.
-fn add_name(alloc: Global, names: &mut Seq<Word>, item: &Item) -> Result<(), Memory>
+fn add_name(alloc: Global, names: &mut NameList, item: &Item) -> Result<(), Memory>
     ensures { OnOk result (names.new ≡ names.old ++ names_of (item_of item.now)) }
 {
     match item {
         Item::Bits(_) | Item::Struct(_) => Ok(()),
-        Item::Area(item) => names.push(item.name.text.copy(alloc)?),
-        Item::Import(header) => names.push(header.name.text.copy(alloc)?),
-        Item::Proc(item) => names.push(item.header.name.text.copy(alloc)?),
+        Item::Area(item) => names.push(alloc, item.name.text.copy(alloc)?),
+        Item::Import(header) => names.push(alloc, header.name.text.copy(alloc)?),
+        Item::Proc(item) => names.push(alloc, item.header.name.text.copy(alloc)?),
     }
 }
 
 /// The names of all areas, imports and procedures.
-pub fn names_in(alloc: Global, items: &[Item]) -> Result<Seq<Word>, Memory>
+pub fn names_in(alloc: Global, items: &[Item]) -> Result<NameList, Memory>
     ensures { IfOk result (λ names. names ≡ item_names (map item_of items.now)) }
 {
-    let mut names = Seq::new(alloc);
+    let mut names = NameList::new(alloc);
     for item in items {
         add_name(alloc, &mut names, item)?;
     }
@@ -43,7 +44,7 @@ pub fn names_in(alloc: Global, items: &[Item]) -> Result<Seq<Word>, Memory>
 }
 
 /// What is known before the first item of a module with these names.
-fn before_items(alloc: Global, names: Seq<Word>) -> Context
+fn before_items(alloc: Global, names: NameList) -> Context
     ensures view { context_of result ≡ outside names nothing_earlier }
     ensures names { result.names ≡ names }
 {

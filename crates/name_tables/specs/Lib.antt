@@ -1,2 +1,4 @@
 pub mod Latest
 pub mod Tables
+pub mod Scoped
+pub mod FirstPlaces

@@ -1,6 +1,10 @@
-//! Tables of what names were declared as: of two declarations of a name the later counts, and it is found by hashing.
+//! Tables of what names were declared as, and of their places in a row: a name is found by hashing.
 #![tactic(auto)]
 
+mod row;
+mod scoped;
 mod table;
 
+pub use row::NameRow;
+pub use scoped::ScopeTable;
 pub use table::NameTable;

@@ -8,3 +8,4 @@ pub mod Rows
 pub mod Links
 pub mod Starts
 pub mod Arguments
+pub mod Named

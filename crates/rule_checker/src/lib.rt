@@ -27,7 +27,7 @@ pub use declare::{add_area, add_bits, add_callee, add_struct, no_items};
 pub use expressions::expression_fault;
 pub use fault::{RuleFault, at_place, either};
 pub use inits::init_fault;
-pub use items::{AreaEntry, CalleeEntry, Items};
+pub use items::{AreaEntry, CalleeEntry, CalleeNames, Items};
 pub use lookups::{callee_named, has_word, is_area, is_bits, is_callee, is_struct};
 pub use matched::Matched;
 pub use names::{index_type, is_length, is_taken, type_if_any};

@@ -31,78 +31,60 @@ pub fn has_word(names: &[Word], name: &Word) -> bool
 pub(crate) fn number_of_bits(items: &Items, name: &Word) -> Option<u32>
     ensures { result ≡ earlier.number_of_bits (earlier_of items.now) name.now }
 {
-    for (number, item) in items.bits.iter().enumerate() {
-        if item.name.text == *name {
-            return Some(number as u32);
-        }
+    match items.bit_names.position(name) {
+        Some(number) => Some(number as u32),
+        None => None,
     }
-    None
 }
 
 /// The number of the struct of the name.
 pub(crate) fn number_of_struct(items: &Items, name: &Word) -> Option<u32>
     ensures { result ≡ earlier.number_of_struct (earlier_of items.now) name.now }
 {
-    for (number, found) in items.structs.iter().enumerate() {
-        if found.name == *name {
-            return Some(number as u32);
-        }
+    match items.struct_names.position(name) {
+        Some(number) => Some(number as u32),
+        None => None,
     }
-    None
 }
 
 pub(crate) fn area_named<'a>(items: &'a Items, name: &Word) -> Option<&'a AreaEntry>
     ensures { option_map area_entry_of (option_copied result) ≡ earlier.area_named (earlier_of items.now) name.now }
 {
-    for entry in items.areas.iter() {
-        if entry.name == *name {
-            return Some(entry);
-        }
+    match items.area_names.position(name) {
+        Some(number) => items.areas.get(number),
+        None => None,
     }
-    None
 }
 
 pub fn callee_named<'a>(items: &'a Items, name: &Word) -> Option<&'a CalleeEntry>
     ensures { option_map callee_entry_of (option_copied result) ≡ earlier.callee_named (earlier_of items.now) name.now }
 {
-    for entry in items.callees.iter() {
-        if entry.name == *name {
-            return Some(entry);
-        }
+    match items.callee_names.all.position(name) {
+        Some(number) => items.callees.get(number),
+        None => None,
     }
-    None
 }
 
 pub fn is_area(items: &Items, name: &Word) -> bool
     ensures { result ≡ earlier.is_area (earlier_of items.now) name.now }
 {
-    for entry in items.areas.iter() {
-        if entry.name == *name {
-            return true;
-        }
-    }
-    false
+    items.area_names.contains(name)
 }
 
 pub fn is_callee(items: &Items, name: &Word) -> bool
     ensures { result ≡ earlier.is_callee (earlier_of items.now) name.now }
 {
-    for entry in items.callees.iter() {
-        if entry.name == *name {
-            return true;
-        }
-    }
-    false
+    items.callee_names.all.contains(name)
 }
 
-#[tactic(auto, using(crate::proofs::Searches::position_is_any))]
+#[tactic(auto, using(name_lists::proofs::Positions::position_is_any))]
 pub fn is_struct(items: &Items, name: &Word) -> bool
     ensures { result ≡ earlier.is_struct (earlier_of items.now) name.now }
 {
     number_of_struct(items, name).is_some()
 }
 
-#[tactic(auto, using(crate::proofs::Searches::position_is_any))]
+#[tactic(auto, using(name_lists::proofs::Positions::position_is_any))]
 pub fn is_bits(items: &Items, name: &Word) -> bool
     ensures { result ≡ earlier.is_bits (earlier_of items.now) name.now }
 {

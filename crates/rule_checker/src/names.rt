@@ -14,8 +14,8 @@ ghost use Rattle.rule_checker.specs.View.{type_at, type_seen};
 
 use crate::items::Items;
 use crate::lookups::{
-    area_named, bit_field_in, bits_at, field_in, has_word, in_scope, is_area, local_named,
-    number_of_bits, struct_at,
+    area_named, bit_field_in, bits_at, field_in, in_scope, is_area, local_named, number_of_bits,
+    struct_at,
 };
 use crate::scope::Context;
 use crate::types::{Reference, TypeRef};
@@ -37,7 +37,7 @@ pub fn type_if_any(ty: &Option<ValueType>) -> Option<TypeRef>
 pub fn is_taken(context: &Context, name: &Word) -> bool
     ensures { result ≡ contexts.is_taken (context_of context.now) name.now }
 {
-    has_word(context.names.as_slice(), name) || in_scope(context, name)
+    context.names.contains(name) || in_scope(context, name)
 }
 
 pub(crate) fn is_known(context: &Context, name: &Word) -> bool

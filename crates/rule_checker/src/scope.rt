@@ -4,6 +4,7 @@ use crate::items::Items;
 use alloc_effects::Allowed;
 use area_types::ValueType;
 use iv_words::{Seq, Word};
+use name_lists::NameList;
 
 /// A parameter, or a name of `let`, `alloc` or a loop, with its type, where it has one.
 #[derive(Drop)]
@@ -17,7 +18,7 @@ pub struct Local {
 #[derive(Drop)]
 pub struct Context {
     pub items: Items,
-    pub names: Seq<Word>,
+    pub names: NameList,
     pub regions: Seq<Word>,
     pub gives: bool,
     pub result: Option<ValueType>,

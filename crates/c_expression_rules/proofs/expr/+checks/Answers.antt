@@ -10,6 +10,7 @@ use Rattle.c_text.specs.Scopes.{usable}
 use Rattle.c_text.specs.ExpressionRules as rules
 use Rattle.c_text.specs.ExpressionRules.{expr_demands, place_demands, is_known_type, tags_known, place_tags_known, type_of}
 use Rattle.c_scopes.specs.Scope.{names_view}
+use Rattle.c_scopes.specs.StructViews.{structs_view}
 use Rattle.c_expression_rules.proofs.Gates.{gated_both, gated_choice, gated_cast}
 use Rattle.c_scopes.proofs.Walks.{followed, passed, asked_first, asked_next, as_demands}
 use Rattle.c_expression_rules.proofs.expr.+checks.Goals as goal
@@ -42,8 +43,8 @@ check_expr-returns-in-Binary-clause-ty t c =
     ((rw (c.check_expr-first.ensures.ty, c.get-in-Binary.ensures, c.check_expr-second.ensures.ty, c.get-in-Binary-2.ensures) at c.of_binary.ensures)
     ∙ gated_both (of_binary (table_of c.args.names.now.target) c.in-Binary.op)
     (tags_known (names_view c.args.names.now) (expr_of c.in-Binary.left)) (tags_known (names_view c.args.names.now) (expr_of c.in-Binary.right))
-    (expr_type (table_of c.args.names.now.target) c.args.names.now.structs.now (declared (usable (names_view c.args.names.now))) (expr_of c.in-Binary.left))
-    (expr_type (table_of c.args.names.now.target) c.args.names.now.structs.now (declared (usable (names_view c.args.names.now))) (expr_of c.in-Binary.right))))
+    (expr_type (table_of c.args.names.now.target) (structs_view c.args.names.now.structs) (declared (usable (names_view c.args.names.now))) (expr_of c.in-Binary.left))
+    (expr_type (table_of c.args.names.now.target) (structs_view c.args.names.now.structs) (declared (usable (names_view c.args.names.now))) (expr_of c.in-Binary.right))))
 
 pub check_expr-returns-in-Binary-clause-walks : goal.check_expr-returns-in-Binary-clause-walks
 check_expr-returns-in-Binary-clause-walks t c =
@@ -68,7 +69,7 @@ check_expr-returns-in-Cast-clause-ty t c =
     rw c.in-Cast.is (rw (cast_is c.in-Cast.ty c.in-Cast.e)
     ((rw (c.check_cast-known.ensures.known, c.check_expr-value-in-Cast.ensures.ty, c.get-in-Cast.ensures) at c.of_known_cast.ensures)
     ∙ gated_cast (of_cast c.in-Cast.ty) (is_known_type (names_view c.args.names.now) c.in-Cast.ty) (tags_known (names_view c.args.names.now) (expr_of c.in-Cast.e))
-    (expr_type (table_of c.args.names.now.target) c.args.names.now.structs.now (declared (usable (names_view c.args.names.now))) (expr_of c.in-Cast.e))))
+    (expr_type (table_of c.args.names.now.target) (structs_view c.args.names.now.structs) (declared (usable (names_view c.args.names.now))) (expr_of c.in-Cast.e))))
 
 pub check_expr-returns-in-Cast-clause-walks : goal.check_expr-returns-in-Cast-clause-walks
 check_expr-returns-in-Cast-clause-walks t c =
@@ -86,9 +87,9 @@ check_expr-returns-in-Cond-clause-ty t c =
     ((rw (c.check_expr-test.ensures.ty, c.get-in-Cond.ensures, c.check_expr-first-in-Cond.ensures.ty, c.get-in-Cond-2.ensures, c.check_expr-second-in-Cond.ensures.ty, c.get-in-Cond-3.ensures) at c.of_choice.ensures)
     ∙ gated_choice (table_of c.args.names.now.target)
     (tags_known (names_view c.args.names.now) (expr_of c.in-Cond.test)) (tags_known (names_view c.args.names.now) (expr_of c.in-Cond.first)) (tags_known (names_view c.args.names.now) (expr_of c.in-Cond.second))
-    (expr_type (table_of c.args.names.now.target) c.args.names.now.structs.now (declared (usable (names_view c.args.names.now))) (expr_of c.in-Cond.test))
-    (expr_type (table_of c.args.names.now.target) c.args.names.now.structs.now (declared (usable (names_view c.args.names.now))) (expr_of c.in-Cond.first))
-    (expr_type (table_of c.args.names.now.target) c.args.names.now.structs.now (declared (usable (names_view c.args.names.now))) (expr_of c.in-Cond.second))))
+    (expr_type (table_of c.args.names.now.target) (structs_view c.args.names.now.structs) (declared (usable (names_view c.args.names.now))) (expr_of c.in-Cond.test))
+    (expr_type (table_of c.args.names.now.target) (structs_view c.args.names.now.structs) (declared (usable (names_view c.args.names.now))) (expr_of c.in-Cond.first))
+    (expr_type (table_of c.args.names.now.target) (structs_view c.args.names.now.structs) (declared (usable (names_view c.args.names.now))) (expr_of c.in-Cond.second))))
 
 pub check_expr-returns-in-Cond-clause-walks : goal.check_expr-returns-in-Cond-clause-walks
 check_expr-returns-in-Cond-clause-walks t c =
@@ -132,8 +133,8 @@ check_place-returns-in-Element-clause-ty t c =
     ((rw (c.check_place-found-in-Element.ensures.ty, c.get-in-Element.ensures, c.check_expr-value-in-Element.ensures.ty, c.get-in-Element-2.ensures) at c.of_element.ensures)
     ∙ gated_both of_element
     (place_tags_known (names_view c.args.names.now) (place_of c.in-Element.place)) (tags_known (names_view c.args.names.now) (expr_of c.in-Element.index))
-    (place_type (table_of c.args.names.now.target) c.args.names.now.structs.now (declared (usable (names_view c.args.names.now))) (place_of c.in-Element.place))
-    (expr_type (table_of c.args.names.now.target) c.args.names.now.structs.now (declared (usable (names_view c.args.names.now))) (expr_of c.in-Element.index))))
+    (place_type (table_of c.args.names.now.target) (structs_view c.args.names.now.structs) (declared (usable (names_view c.args.names.now))) (place_of c.in-Element.place))
+    (expr_type (table_of c.args.names.now.target) (structs_view c.args.names.now.structs) (declared (usable (names_view c.args.names.now))) (expr_of c.in-Element.index))))
 
 pub check_place-returns-in-Element-clause-walks : goal.check_place-returns-in-Element-clause-walks
 check_place-returns-in-Element-clause-walks t c =

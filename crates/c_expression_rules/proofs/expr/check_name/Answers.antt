@@ -3,6 +3,7 @@ use Rattle.std.specs.Option.{option_map}
 use Rattle.c_ast.specs.StaticTypes.{of_entity}
 use Rattle.c_text.specs.Rules.{NameIsKnown, NameIsPlace, FileScopeHasNoNames}
 use Rattle.c_scopes.specs.Scope.{names_view}
+use Rattle.c_scopes.specs.StructViews.{structs_view}
 use Rattle.c_expression_rules.proofs.Gates.{usable_named}
 use Rattle.c_scopes.proofs.Walks.{passed, asked_here, asked_again}
 use Rattle.c_expression_rules.proofs.expr.check_name.Goals as goal
@@ -20,5 +21,5 @@ returns-clause-walks c =
 pub returns-clause-ty : goal.returns-clause-ty
 returns-clause-ty c =
     c.place_of.ensures
-    ∙ ap (λ e. option_map (of_entity c.args.names.now.structs.now) (if is_some c.args.names.now.itself then e else None)) c.entity-entity.ensures
-    ∙ ap (option_map (of_entity c.args.names.now.structs.now)) (usable_named (names_view c.args.names.now) c.args.name.now)
+    ∙ ap (λ e. option_map (of_entity (structs_view c.args.names.now.structs)) (if is_some c.args.names.now.itself then e else None)) c.entity-entity.ensures
+    ∙ ap (option_map (of_entity (structs_view c.args.names.now.structs))) (usable_named (names_view c.args.names.now) c.args.name.now)

@@ -8,6 +8,7 @@ use Rattle.c_text.specs.Spelling.{base_const_text}
 use Rattle.c_text.specs.ExpressionRules.{base_demands, init_demands}
 use Rattle.c_text.specs.UnitRules.{file_name}
 use Rattle.c_scopes.specs.Scope.{names_view}
+use Rattle.c_scopes.specs.StructViews.{structs_view}
 use Rattle.c_rules.proofs.Places.{object_name, object_init}
 use Rattle.c_scopes.proofs.Walks.{followed, passed, as_demands}
 use Rattle.c_rules.proofs.declarations.check_object_line.Goals as goal
@@ -16,7 +17,7 @@ pub returns : goal.returns
 returns c =
     let o = c.args.object.now in
     let at = c.args.walk.now.at in
-    let base = tree c.args.names.now.structs.now o.base in
+    let base = tree (structs_view c.args.names.now.structs) o.base in
     let head = base_demands (names_view c.args.names.now) (behind at (codes "static ")) o.base in
     as_demands
     (ap (λ n. head ++ file_name (names_view c.args.names.now) n o.name ++ init_demands c.args.names.now.target (names_view c.args.names.now) (behind at (codes "static " ++ base_text o.base ++ codes " " ++ base_const_text o.constant ++ o.name ++ codes " = ")) base (init_of o.init))

@@ -1,4 +1,5 @@
 use Rattle.std.proofs.Common.{◌≡◌, [], drop, take}
+use Rattle.c_scopes.specs.StructViews.{structs_view}
 use Rattle.c_ast.specs.Scalars.{metric_of}
 use Rattle.c_ast.specs.Structs.{row_of, table}
 use Rattle.c_text.specs.Spelling.{member_text}
@@ -10,7 +11,7 @@ use Rattle.c_rules.proofs.structs.check_members.Given as goal
 
 abbrev pub invariant-loop-i : goal.invariant-loop-i
 invariant-loop-i l = record {
-  going : Going member_text (item l.names.target l.names.structs.now) next l.initial.walk l.walk [] (take l.i l.members) l.members (drop l.i l.members);
-  end : l.end ≡ capped (end_row (metric_of l.names.target) (row_of (table [] l.names.structs.now) (take l.i l.members)) 0);
-  align : l.align ≡ align_row (metric_of l.names.target) (row_of (table [] l.names.structs.now) (take l.i l.members));
+  going : Going member_text (item l.names.target (structs_view l.names.structs)) next l.initial.walk l.walk [] (take l.i l.members) l.members (drop l.i l.members);
+  end : l.end ≡ capped (end_row (metric_of l.names.target) (row_of (table [] (structs_view l.names.structs)) (take l.i l.members)) 0);
+  align : l.align ≡ align_row (metric_of l.names.target) (row_of (table [] (structs_view l.names.structs)) (take l.i l.members));
 }

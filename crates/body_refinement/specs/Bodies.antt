@@ -7,13 +7,13 @@ use Rattle.core_tree.specs.Syntax.{ProcCore, ModuleCore}
 use Rattle.core_tree.specs.TypedItems.{env_of}
 use Rattle.core_tree.specs.Valid.{ValidCore}
 use Rattle.c_ast.specs.declared.Target.{Target}
-use Rattle.c_ast.specs.Syntax.{Name}
+use Rattle.c_ast.specs.Syntax.{Name, Function}
 use Rattle.c_meaning.specs.Calls.{Calls}
 use Rattle.c_meaning.specs.State.{Program, program_of}
 use Rattle.c_meaning.specs.Values.{CValue}
 use Rattle.lower_types.specs.Types.{table_for}
 use Rattle.lower_values.specs.Frames.{Frame}
-use Rattle.lower_statements.specs.Procedures.{frame_for, home_of}
+use Rattle.lower_statements.specs.Procedures.{frame_for, home_of, function_for}
 use Rattle.lower_statements.specs.Statements.{Home}
 use Rattle.lower_statements.specs.Units.{lowered_without}
 use Rattle.value_refinement.specs.Laws.{Numbered}
@@ -45,6 +45,9 @@ home_in d = home_of (table_for d.core) d.proc
 
 abbrev pub program_in : Lowered → Program
 program_in d = program_of (lowered_without d.skip d.core d.target) d.target
+
+abbrev pub function_in : Lowered → Function
+function_in d = function_for d.skip d.core d.target (table_for d.core) d.proc
 
 -- with these locals in scope
 abbrev pub within : Lowered → (scope : List ℕ) → Setting

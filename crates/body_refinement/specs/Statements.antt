@@ -1,6 +1,6 @@
 -- What the statements of a procedure's body take and leave on both sides. From related states C follows the source with no credit before or
 -- after; where both fall through or break off, they have moved on alike; and where they return, they return the same.
-use Rattle.std.specs.Prelude.{ℕ, ◌≤◌, List, length, Option}
+use Rattle.std.specs.Prelude.{◌≡◌, ℕ, ◌≤◌, List, length, Option, None}
 use Rattle.step_semantics.specs.Alike.{Same}
 use Rattle.step_semantics.specs.Control.{Control, Falls, Broke, Returned}
 use Rattle.step_semantics.specs.Follows.{Follows}
@@ -8,12 +8,15 @@ use Rattle.step_semantics.specs.Steps.{World}
 use Rattle.core_tree.specs.Checks.{stmt_checks, stmts_checks}
 use Rattle.core_tree.specs.Environments.{Point, after}
 use Rattle.core_tree.specs.Syntax.{StmtCore, StmtsCore}
+use Rattle.core_tree.specs.TypedItems.{start}
 use Rattle.core_tree.specs.TypedStatements.{StmtTyped, StmtsTyped}
 use Rattle.core_meaning.specs.Conditions.{ensured}
+use Rattle.core_meaning.specs.Run.{body_of}
 use Rattle.core_meaning.specs.State.{State}
 use Rattle.core_meaning.specs.Statements.{Flow, exec, exec_all}
 use Rattle.core_meaning.specs.Values.{Value}
 use Rattle.c_meaning.specs.State.{CState}
+use Rattle.c_meaning.specs.Statements as target
 use Rattle.c_meaning.specs.Values.{CValue}
 use Rattle.area_objects.specs.Both.{Map}
 use Rattle.area_objects.specs.PlaceLaws.{BothIn}
@@ -27,7 +30,7 @@ use Rattle.value_refinement.specs.Related.{Related}
 use Rattle.lowered_surroundings.specs.Surroundings.{naming_for}
 use Rattle.statement_refinement.specs.Apart.{CountersApart}
 use Rattle.statement_refinement.specs.Moves.{Moved}
-use Rattle.body_refinement.specs.Bodies.{Lowered, env_in, frame_in, home_in, program_in, within}
+use Rattle.body_refinement.specs.Bodies.{Lowered, env_in, frame_in, home_in, program_in, function_in, within}
 use Rattle.body_refinement.specs.Kinds.{KindsAre, AllKindsAre}
 use Rattle.body_refinement.specs.Results.{ResultGiven}
 
@@ -84,3 +87,17 @@ StmtsFollow d at ss =
     PlaceIn d.proc at → StmtsTyped (env_in d) at ss → AllKindsAre (allocated d.proc.body) ss → Numbered (stmts_checks ss)
     → (entry : Entry) (waiting : List Activation) (objects : Map) (s : State) (t : CState) → Before d at entry waiting objects s t → (from : ℕ) → length d.proc.locals ≤ from → (n : ℕ) (w : World)
     → Follows d.skip (StmtsDone d entry at.next objects s t) 0 0 n (exec_all d.core (calls_before d.core d.number) (ensured d.core d.proc) ss n w s) (λ j. running (within d at.scope) (stmts_body (frame_in d) (home_in d) ss from).stmts j w t)
+
+-- ---- a whole body
+
+-- it falls off its end without a result, or returns; no break leaves it
+abbrev pub BodyDone : Lowered → Entry → Map → State → CState → Option Value → State → Control (Option CValue) → CState → Type 0
+BodyDone d entry objects s t value later Falls u = (value ≡ None) × (d.proc.result ≡ None) × CameTo d (length d.proc.params) objects s t later u
+BodyDone d entry objects s t value later (Returned result) u = CameBack d (length d.proc.params) objects s t entry value later result u
+BodyDone d entry objects s t value later Broke u = ⊥
+
+-- what the procedure requires, its statements and what it ensures, from where its parameters alone are in scope
+abbrev pub BodyFollows : Lowered → Type 0
+BodyFollows d =
+    (entry : Entry) (waiting : List Activation) (objects : Map) (s : State) (t : CState) → Before d (start d.proc) entry waiting objects s t → (n : ℕ) (w : World)
+    → Follows d.skip (BodyDone d entry objects s t) 0 0 n (body_of d.core (calls_before d.core d.number) d.proc n w s) (λ j. target.exec_all (program_in d) d.functions (function_in d).body j w t)

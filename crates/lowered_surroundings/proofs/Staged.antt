@@ -105,10 +105,10 @@ module _ (core : ModuleCore) (valid : ValidCore core) (k : ℕ) (p : ProcCore) (
     element = λ constant region n area m. element_made core.structs n area m;
   }
 
-  indices_have_lengths : (outcome : Option ValueType) → ((ty : ValueType) → outcome ≡ Some ty → IsMade core.structs ty) → (e : ExprCore) → ExprTyped (around outcome) scope e → IsTrue (has_index_length (type_of e))
+  pub indices_have_lengths : (outcome : Option ValueType) → ((ty : ValueType) → outcome ≡ Some ty → IsMade core.structs ty) → (e : ExprCore) → ExprTyped (around outcome) scope e → IsTrue (has_index_length (type_of e))
   indices_have_lengths outcome named e t = made_indexed core.structs (type_of e) (types_hold (around outcome) scope (IsMade core.structs) (made_passes outcome named) e t)
 
-  cells_are_plain : (outcome : Option ValueType) → ((ty : ValueType) → outcome ≡ Some ty → IsMade core.structs ty) → (e : ExprCore) (constant : Bool) (region : Region) (held : ValueType) → ExprTyped (around outcome) scope e → type_of e ≡ Ref constant region (types.Stored held)
+  pub cells_are_plain : (outcome : Option ValueType) → ((ty : ValueType) → outcome ≡ Some ty → IsMade core.structs ty) → (e : ExprCore) (constant : Bool) (region : Region) (held : ValueType) → ExprTyped (around outcome) scope e → type_of e ≡ Ref constant region (types.Stored held)
       → IsTrue (not (is_reference held))
   cells_are_plain outcome named e constant region held t is =
       plain_stored core.structs held (subst (IsMade core.structs) is (types_hold (around outcome) scope (IsMade core.structs) (made_passes outcome named) e t))

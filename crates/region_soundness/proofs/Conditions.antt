@@ -59,11 +59,11 @@ kept_one Q true c cs h a = All-cons Q c cs (h refl) a
 kept_one Q false c cs h a = a
 
 -- those of one kind
-kept_typed : (P Q : ContractCore → Type 0) (f : ContractCore → Bool) (cs : List ContractCore) → ((c : ContractCore) → f c ≡ true → P c → Q c) → All P cs → All Q (filter f cs)
+pub kept_typed : (P Q : ContractCore → Type 0) (f : ContractCore → Bool) (cs : List ContractCore) → ((c : ContractCore) → f c ≡ true → P c → Q c) → All P cs → All Q (filter f cs)
 kept_typed P Q f [] h a = All-nil Q
 kept_typed P Q f (c ∷ cs) h a = kept_one Q (f c) c (filter f cs) (λ e. h c e (All-head P c cs a)) (kept_typed P Q f cs h (All-tail P c cs a))
 
-not_before : (b : Bool) → not b ≡ true → b ≡ false
+pub not_before : (b : Bool) → not b ≡ true → b ≡ false
 not_before true e = let no : ⊥ = cc in absurd no
 not_before false e = refl
 
@@ -77,10 +77,10 @@ module _ (env : Env) (valid : ValidCore env.core) (entry : Entry) (p : ProcCore)
   abbrev with_result : Env
   with_result = record env { outcome = env.result }
 
-  requires_typed : All (λ c. HasType env base c.cond Truth) (requires_of p)
+  pub requires_typed : All (λ c. HasType env base c.cond Truth) (requires_of p)
   requires_typed = kept_typed (ContractTyped env base) (λ c. HasType env base c.cond Truth) (λ c. c.before) p.contracts (λ c e t. subst (λ b. HasType (contract_env env b) base c.cond Truth) e t.cond) typed
 
-  ensures_typed : All (λ c. HasType with_result base c.cond Truth) (ensures_of p)
+  pub ensures_typed : All (λ c. HasType with_result base c.cond Truth) (ensures_of p)
   ensures_typed =
       kept_typed (ContractTyped env base) (λ c. HasType with_result base c.cond Truth) (λ c. not c.before) p.contracts
       (λ c e t. subst (λ b. HasType (contract_env env b) base c.cond Truth) (not_before c.before e) t.cond) typed

@@ -129,13 +129,19 @@ module _ (core : ModuleCore) (valid : ValidCore core) (k : ℕ) (p : ProcCore) (
       let st = stands_named env (below (length p.params)) entry at.scope at.next s ty v stands_here type fits in
       scoped_with core p entry waiting at.scope s h (at.next ∷ at.scope) (with_name at.next v s) (record { areas = lasting_refl s.areas; first = refl; callers = refl }) st.knows.areas st.knows.names st.named st.args
 
-  pub stmts_last : (cs : StmtsCore) → StmtsTyped env at cs → (n : ℕ) (w : World) → Safe (λ flow u. Lasts s u × AreasFit core.structs u.areas) (exec_all core (calls_before core k) (ensured core p) cs n w s)
-  stmts_last cs typed n w =
+  abbrev pub Comes : StmtsCore → Flow → State → Type 0
+  Comes cs = Came env (below (length p.params)) entry s (after_all cs at).scope (after_all cs at).next (stmts_fall cs) (stmts_break cs) at.allowed.may_break
+
+  pub stmts_come : (cs : StmtsCore) → StmtsTyped env at cs → (n : ℕ) (w : World) → Safe (Comes cs) (exec_all core (calls_before core k) (ensured core p) cs n w s)
+  stmts_come cs typed n w =
       let t : ProcTyped core (take k core.procs) p = valid.procs k p there in
       let base : List ℕ = below (length p.params) in
-      keeps_weaker HasMeaning (Came env base entry s (after_all cs at).scope (after_all cs at).next (stmts_fall cs) (stmts_break cs) at.allowed.may_break) (λ flow u. Lasts s u × AreasFit core.structs u.areas) (exec_all core (calls_before core k) (ensured core p) cs n w s) last
-      (exec_all_safe env valid refl (calls_before core k) (before_safe core valid k) (imports_safe core valid) base entry (record { referred = h.frame.referred; globals = h.frame.globals }) (result_kept core.structs p p.result t.result)
-      (ensured core p) (λ u result. ensured_safe env valid entry p base t.contracts u result) (inits_safe env valid refl entry) cs at typed s stands_here n w)
+      exec_all_safe env valid refl (calls_before core k) (before_safe core valid k) (imports_safe core valid) base entry (record { referred = h.frame.referred; globals = h.frame.globals }) (result_kept core.structs p p.result t.result)
+      (ensured core p) (λ u result. ensured_safe env valid entry p base t.contracts u result) (inits_safe env valid refl entry) cs at typed s stands_here n w
+
+  pub stmts_last : (cs : StmtsCore) → StmtsTyped env at cs → (n : ℕ) (w : World) → Safe (λ flow u. Lasts s u × AreasFit core.structs u.areas) (exec_all core (calls_before core k) (ensured core p) cs n w s)
+  stmts_last cs typed n w =
+      keeps_weaker HasMeaning (Comes cs) (λ flow u. Lasts s u × AreasFit core.structs u.areas) (exec_all core (calls_before core k) (ensured core p) cs n w s) last (stmts_come cs typed n w)
     where
       last : (flow : Flow) (u : State) → Came (env_of core (take k core.procs) p) (below (length p.params)) entry s (after_all cs at).scope (after_all cs at).next (stmts_fall cs) (stmts_break cs) at.allowed.may_break flow u → Lasts s u × AreasFit core.structs u.areas
       last Falls u x = (x.lasts, x.stands.knows.areas)

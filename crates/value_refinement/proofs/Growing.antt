@@ -21,7 +21,7 @@ use Rattle.lower_values.specs.Expressions.{raw, place, index_piece, left_piece, 
 
 -- ---- how a piece is taken
 
-either_grows : (b : Bool) (p q : Piece) (k : ℕ) → k ≤ p.next → k ≤ q.next → k ≤ (if b then p else q).next
+pub either_grows : (b : Bool) (p q : Piece) (k : ℕ) → k ≤ p.next → k ≤ q.next → k ≤ (if b then p else q).next
 either_grows true p q k h g = h
 either_grows false p q k h g = g
 
@@ -35,7 +35,7 @@ module _ (ty : CType) (p : Piece) (k : ℕ) (le : k ≤ p.next) where
   often_grows : k ≤ (often ty p).next
   often_grows = either_grows (is_exact p.standing && stays p) p (named ty p) k le named_grows
 
-  atom_grows : k ≤ (atom ty p).next
+  pub atom_grows : k ≤ (atom ty p).next
   atom_grows = either_grows (has_number p.standing && stays p) p (named ty p) k le named_grows
 
   taken_grows : (again : Bool) → k ≤ (taken again ty p).next

@@ -18,7 +18,7 @@ use Rattle.area_types.specs.Syntax.{ValueType}
 use Rattle.core_tree.specs.Syntax.{ExprCore, type_of}
 use Rattle.core_tree.specs.TypedExpressions.{ExprTyped}
 use Rattle.core_tree.specs.Types.{is_value}
-use Rattle.core_meaning.specs.Areas.{Areas, Live}
+use Rattle.core_meaning.specs.Areas.{Area, Areas, Live}
 use Rattle.region_soundness.specs.Fitting.{ValueFits}
 use Rattle.region_soundness.proofs.Standing.{name_here, name_past}
 use Rattle.core_meaning.specs.Expressions.{eval}
@@ -44,11 +44,12 @@ use Rattle.c_meaning.specs.Memory.{memory_of}
 use Rattle.c_meaning.specs.Places.{Lvalue, Located, or_outer, file_place, pointee}
 use Rattle.c_meaning.specs.Places as places
 use Rattle.c_meaning.specs.Scopes.{value_in}
-use Rattle.c_meaning.specs.State.{CState, Slot, Holding, lives, declare}
+use Rattle.c_meaning.specs.State.{Program, CState, Slot, Holding, lives, declare}
 use Rattle.c_meaning.specs.Values as values
 use Rattle.c_meaning.specs.Values.{Trouble, Undefined, Stuck, CValue, Num, Ptr, on_ok, as_assigned}
 use Rattle.c_meaning.proofs.Names.{name_type_is}
-use Rattle.area_objects.specs.Both.{Map}
+use Rattle.area_types.specs.Trees.{Written}
+use Rattle.area_objects.specs.Both.{Map, LiveIn}
 use Rattle.area_objects.specs.Holds.{CanHold}
 use Rattle.area_objects.specs.Located.{IsType, begins}
 use Rattle.area_objects.specs.Shapes.{shape, base_of}
@@ -122,6 +123,29 @@ contains_cases : (y z : ℕ) (xs : List ℕ) → Contains (y ∷ xs) z → (y �
 contains_cases y z xs (zero, lt, e) = inl e
 contains_cases y z xs (suc k, lt, e) = inr (k, omega arith, e)
 
+-- a pointer that a name holds is read while its object lives
+pub pointer_reads : (p : Program) (u : CState) (x : Name) (constant : Bool) (b : CBase) (to : values.Address) → named u.frames.own x ≡ Some (Holding (Ptr constant b to)) → lives u to.object ≡ true → c.eval p (Read (Var x)) u ≡ Ok (Ptr constant b to)
+pointer_reads p u x constant b to has live =
+    ap (λ found. on_ok (or_outer p.unit.structs found (file_place p.unit.structs 0 p.unit.objects x)) (places.read p.target u)) has
+    ∙ ap (λ l. let r : Result CValue Trouble = if l then Ok (Ptr constant b to) else Err (Undefined reason.Dead) in r) live
+
+-- a name that holds a pointer to a part leads there
+pub pointer_stands : (g : Setting) (objects : Map) (s : State) (u : CState) → Related g objects s u → (x : ℕ) (constant : Bool) (k object : ℕ) (area : Area) (path : List ℕ) (content : Written) → LiveIn objects s.areas k object area → part area.ty path ≡ Some content
+    → IsType g.naming g.program.unit.structs (base_of g.naming content) content
+    → PlaceIs g objects s.areas (declare (local_name x) (Ptr constant (base_of g.naming content) (begins g.program.target g.naming object area.ty path)) u) constant (At (Read (Var (local_name x)))) k path
+pointer_stands g objects s u related x constant k object area path content live leads tree_is =
+    let to : values.Address = begins g.program.target g.naming object area.ty path in
+    let held : CValue = Ptr constant (base_of g.naming content) to in
+    let u2 : CState = declare (local_name x) held u in
+    let has : named u2.frames.own (local_name x) ≡ Some (Holding held) = named_here (local_name x) (Holding held) u.frames.own in
+    let lives : lives u object ≡ true = objects_live (metric_of g.program.target) (CanHold (table_of g.program.target)) (memory_of g.program.target) (lawful_in (table_of g.program.target)) g.naming objects s.areas u.objects k object area related.both live in
+    let read : c.eval g.program (Read (Var (local_name x))) u2 ≡ Ok held = pointer_reads g.program u2 (local_name x) constant (base_of g.naming content) to has lives in
+    record {
+      pointer = record { object = object; area = area; lives = live; content = content; leads = leads; is = read };
+      is = ap (λ v. on_ok v (pointee g.program.unit.structs)) read ∙ ap (λ a. let r : Result Lvalue Trouble = Ok (Located constant to a) in r) tree_is;
+      type = ap (option_and_then (of_pointee g.program.unit.structs)) (name_type_is g.program u2 (local_name x) held (ap value_in has)) ∙ ap (λ a. let r : Option PlaceType = Some (Stored constant a) in r) tree_is;
+    }
+
 module _ (g : Setting) (set : Set g) (objects : Map) (s : State) (stage : Stage g s) (e : ExprCore) (typed : ExprTyped g.env g.scope e) (x : ℕ) (new : IsNewLocal g x (type_of e)) where
   -- ---- what the declaration holds
 
@@ -161,15 +185,7 @@ module _ (g : Setting) (set : Set g) (objects : Map) (s : State) (stage : Stage 
       let b : CBase = base_of g.naming points.content in
       let base_is : base_for g.frame.table area ≡ b = declared.base ∙ sym (ap (base_of g.naming) content) in
       let held : CValue = Ptr constant b to in
-      let u2 : CState = declare (local_name x) held u in
       let tree_is : tree g.program.unit.structs b ≡ shape g.naming points.content = subst (λ c. IsType g.naming g.program.unit.structs (base_of g.naming c) c) (sym content) declared.type in
-      let has : named u2.frames.own (local_name x) ≡ Some (Holding held) = named_here (local_name x) (Holding held) u.frames.own in
-      let lives : lives u points.object ≡ true = objects_live (metric_of g.program.target) (CanHold (table_of g.program.target)) (memory_of g.program.target) (lawful_in (table_of g.program.target)) g.naming objects s.areas u.objects k points.object points.area related.both points.lives in
-      let read : c.eval g.program (Read (Var (local_name x))) u2 ≡ Ok held =
-      ap (λ found. on_ok (or_outer g.program.unit.structs found (file_place g.program.unit.structs 0 g.program.unit.objects (local_name x))) (places.read g.program.target u2)) has
-      ∙ ap (λ l. let r : Result CValue Trouble = if l then Ok held else Err (Undefined reason.Dead) in r) lives in
-      let pointer : PointerIs g objects s.areas u2 constant (Read (Var (local_name x))) k path =
-      record { object = points.object; area = points.area; lives = points.lives; content = points.content; leads = points.leads; is = read } in
       record {
         value = held;
         gives = points.is;
@@ -178,12 +194,8 @@ module _ (g : Setting) (set : Set g) (objects : Map) (s : State) (stage : Stage 
             ap (λ t. as_assigned g.program.target (type_for g.frame.table t) held) is
             ∙ ap (λ base. as_assigned g.program.target (ctype.Pointer constant base) held) base_is
             ∙ ap (λ ok. let r : Result CValue Trouble = if ok then Ok held else Err Stuck in r) (pointer_fits b constant);
-        stands = subst (λ t. PlaceIs g objects s.areas u2 (is_constant t) (At (Read (Var (local_name x)))) k path) (sym is)
-            (record {
-              pointer = pointer;
-              is = ap (λ v. on_ok v (pointee g.program.unit.structs)) read ∙ ap (λ a. let r : Result Lvalue Trouble = Ok (Located constant to a) in r) tree_is;
-              type = ap (option_and_then (of_pointee g.program.unit.structs)) (name_type_is g.program u2 (local_name x) held (ap value_in has)) ∙ ap (λ a. let r : Option PlaceType = Some (Stored constant a) in r) tree_is;
-            });
+        stands = subst (λ t. PlaceIs g objects s.areas (declare (local_name x) held u) (is_constant t) (At (Read (Var (local_name x)))) k path) (sym is)
+            (pointer_stands g objects s u related x constant k points.object points.area path points.content points.lives points.leads tree_is);
       }
 
   declares : (u : CState) (p : Piece) (v : Value) → Related g objects s u → Gives g.frame.core g.outcome s e v → StandsFor g objects s p (type_of e) u v → Declares u p.value v

@@ -1,21 +1,21 @@
 -- What the type of a reference leads to is an area of the module's table, with its structs written out; and so is each part of it.
-use Rattle.std.proofs.Common.{◌≡◌, ℕ, ◌<◌, ◌≤◌, Bool, true, false, ◌&&◌, ◌||◌, List, [], ◌∷◌, Some, None, IsTrue, refl, sym, ◌∙◌, ap, subst, arith}
-use Rattle.std.specs.Prelude.{if◌then◌else◌, slice_get, Contains}
+use Rattle.std.proofs.Common.{◌≡◌, ℕ, ◌<◌, ◌≤◌, Bool, true, false, ◌&&◌, ◌||◌, List, [], ◌∷◌, Some, None, IsTrue, refl, ◌∙◌, ap, subst, arith}
+use Rattle.std.specs.Prelude.{if◌then◌else◌}
 use Rattle.std.proofs.lemmas.Bool.{lt-ltb}
-use Rattle.type_trees.specs.Trees.{Leaf, Many, Struct, part}
+use Rattle.type_trees.specs.Trees.{Leaf, Many, part}
 use Rattle.area_types.specs.Syntax as types
 use Rattle.area_types.specs.Syntax.{ValueType, Area}
-use Rattle.area_types.specs.Tables.{Table, structs_of, written_out, is_table, is_area, is_made_of, is_small, is_length, has_index_lengths}
+use Rattle.area_types.specs.Tables.{Table, structs_of, written_out, is_table, is_area, is_small, is_length, has_index_lengths}
 use Rattle.area_types.specs.Trees.{Written, area_in}
 use Rattle.area_types.specs.declared.region.Region.{Region}
 use Rattle.area_types.specs.declared.region.Region.TheVariants.{Global, Param, Own}
 use Rattle.area_types.proofs.Truths.{both}
 use Rattle.area_types.proofs.Within.{parts_are_areas}
 use Rattle.core_tree.specs.Environments.{struct_field}
-use Rattle.core_tree.specs.Syntax.{AreaCore, ExprCore, type_of}
+use Rattle.core_tree.specs.Syntax.{ExprCore, type_of}
 use Rattle.core_tree.specs.TypedExpressions.{ExprTyped}
 use Rattle.core_tree.specs.TypedItems.{AreaTyped, is_own, is_local_type, param_types}
-use Rattle.core_tree.specs.Types.{is_core_area, is_type}
+use Rattle.core_tree.specs.Types.{is_core_area}
 use Rattle.region_check.specs.Found.{region_count}
 use Rattle.region_soundness.proofs.Structs.{field_part}
 use Rattle.lowered_surroundings.proofs.ExpressionTypes.{Passes, all_at, no_outcome, types_hold}

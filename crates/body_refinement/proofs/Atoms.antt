@@ -1,5 +1,5 @@
 -- What the index of a place reads: nothing, a temporary that the statements before it declare, or a local of a number in scope.
-use Rattle.std.proofs.Common.{◌≡◌, ℕ, suc, ◌+◌, ◌-◌, ◌<◌, ◌≤◌, ℤ, pos, negsuc, Bool, true, false, IsTrue, List, [], ◌∷◌, ◌++◌, Contains, slice_get, Option, Some, None, Result, Ok, Err, refl, sym, ◌∙◌, ap, subst, arith, append_assoc}
+use Rattle.std.proofs.Common.{◌≡◌, ℕ, suc, ◌-◌, ◌<◌, ◌≤◌, ℤ, pos, negsuc, Bool, true, false, IsTrue, List, [], ◌∷◌, ◌++◌, Contains, slice_get, Option, Some, None, Result, Ok, Err, refl, sym, ◌∙◌, ap, subst, arith, append_assoc}
 use Rattle.std.specs.Prelude.{if◌then◌else◌, not, ◌&&◌, ◌||◌, nat_lt}
 use Rattle.source_types.specs.Values.{is_integer, is_index_type}
 use Rattle.iv_words.specs.declared.IntKind.{IntKind}
@@ -16,7 +16,6 @@ use Rattle.area_types.specs.Syntax as types
 use Rattle.area_types.specs.Syntax.{ValueType}
 use Rattle.region_check.specs.Calls.{reference_of}
 use Rattle.core_tree.specs.declared.Check.{Check}
-use Rattle.core_tree.specs.declared.SiteKind.{SiteKind}
 use Rattle.core_tree.specs.Syntax as core
 use Rattle.core_tree.specs.Syntax.{Label, ExprCore, type_of}
 use Rattle.core_tree.specs.TypedExpressions.{ExprTyped}
@@ -36,7 +35,7 @@ use Rattle.lower_types.specs.Constants.{constant, negative, signed_limit}
 use Rattle.lower_types.specs.Names.{local_name}
 use Rattle.lower_values.specs.Choices.{is_logic, is_truth_chain, left_object, logic, goes_on, into, place_of}
 use Rattle.lower_values.specs.Conversions.{range_guard, valued, bit_field, set_in}
-use Rattle.lower_values.specs.Expressions.{cast_of, literal, raw, place, index_piece, left_piece, field_piece, after_object}
+use Rattle.lower_values.specs.Expressions.{cast_of, literal, raw, place, index_piece, left_piece, field_piece}
 use Rattle.lower_values.specs.Frames.{Frame, is_object, name_of, kind_in, type_in, base_in}
 use Rattle.lower_values.specs.Operators.{applied, operand, binary, single}
 use Rattle.lower_values.specs.Pieces.{Piece, PlacePiece, Operands, Standing, Exact, Same, Near, inline, named, once, often, both, taken, is_atom, is_exact, has_number, stays}

@@ -1,11 +1,10 @@
 -- A copy follows: both references are evaluated, and then the C of the area's parts takes the steps of its nodes.
-use Rattle.std.proofs.Common.{◌≡◌, ℕ, ◌+◌, ◌-◌, ◌*◌, ◌≤◌, ℤ, Bool, true, false, List, [], ◌∷◌, ◌++◌, length, Option, Some, None, Result, Ok, IsTrue, refl, sym, ◌∙◌, ap, subst, arith, append_assoc, append-nil}
+use Rattle.std.proofs.Common.{◌≡◌, ℕ, ◌-◌, ◌*◌, ◌≤◌, ℤ, Bool, true, false, List, [], ◌++◌, length, Option, Some, None, Result, Ok, IsTrue, refl, sym, ◌∙◌, ap, subst, arith, append-nil}
 use Rattle.std.specs.Prelude.{not, ◌||◌, slice_get}
 use Rattle.std.specs.Option.{option_and_then}
 use Rattle.step_semantics.specs.Control.{Control, Falls}
 use Rattle.step_semantics.specs.Follows.{Follows}
-use Rattle.step_semantics.specs.Steps.{World, Part, bind, ticks, change}
-use Rattle.step_semantics.specs.Takes.{Reaches}
+use Rattle.step_semantics.specs.Steps.{World, bind, ticks, change}
 use Rattle.step_semantics.proofs.Leading.{leads_refl}
 use Rattle.step_semantics.proofs.Paying.{pays_to}
 use Rattle.type_trees.specs.Trees.{nodes, part}
@@ -20,7 +19,7 @@ use Rattle.core_tree.specs.Checks.{expr_checks, stmt_checks}
 use Rattle.core_tree.specs.Environments.{Point}
 use Rattle.core_tree.specs.Syntax.{ExprCore, Copy, type_of}
 use Rattle.core_tree.specs.TypedStatements.{CopyTyped}
-use Rattle.core_meaning.specs.Areas.{Held, Area, Live, in_map, area_at, type_at, held_at, put_at}
+use Rattle.core_meaning.specs.Areas.{Held, Area, Live, in_map, type_at, held_at, put_at}
 use Rattle.core_meaning.specs.Checks.{on_some}
 use Rattle.core_meaning.specs.Expressions.{eval}
 use Rattle.core_meaning.specs.Gives.{Gives}
@@ -29,9 +28,8 @@ use Rattle.core_meaning.specs.Statements.{Flow, copy}
 use Rattle.core_meaning.specs.Values as source
 use Rattle.core_meaning.specs.Values.{Value}
 use Rattle.c_ast.specs.Scalars.{metric_of}
-use Rattle.c_ast.specs.Syntax.{Place, Stmt}
+use Rattle.c_ast.specs.Syntax.{Stmt}
 use Rattle.c_ast.specs.Targets.{table_of}
-use Rattle.c_meaning.specs.Expressions.{eval_place}
 use Rattle.c_meaning.specs.Memory.{memory_of}
 use Rattle.c_meaning.specs.Places.{Lvalue}
 use Rattle.c_meaning.specs.State.{CState}
@@ -54,13 +52,12 @@ use Rattle.value_refinement.proofs.Given.{first_checks, last_checks}
 use Rattle.value_refinement.proofs.Keeping.{kept_same, kept_twice, older, same_twice}
 use Rattle.value_refinement.proofs.References.{content_is}
 use Rattle.value_refinement.proofs.Standings.{related_on}
-use Rattle.statement_refinement.specs.Apart.{CountersApart}
 use Rattle.statement_refinement.specs.Moves.{Moved}
 use Rattle.statement_refinement.proofs.Written.{still_live, counters_kept}
-use Rattle.body_refinement.specs.Bodies.{Lowered, env_in, frame_in, program_in, within}
+use Rattle.body_refinement.specs.Bodies.{Lowered, env_in, program_in, within}
 use Rattle.body_refinement.specs.Laws.{CopiesFollow}
 use Rattle.body_refinement.specs.Statements.{CameWith, StmtDone, Before}
-use Rattle.body_refinement.proofs.AreaParts.{IsPart, reference_leads}
+use Rattle.body_refinement.proofs.AreaParts.{reference_leads}
 use Rattle.body_refinement.proofs.Aside.{Aside, Fixed, aside_kept, aside_twice}
 use Rattle.body_refinement.proofs.Coming.{set_in, stage_in, came_with}
 use Rattle.body_refinement.proofs.CopyAreas.{part_copied}

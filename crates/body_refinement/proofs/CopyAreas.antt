@@ -1,7 +1,7 @@
 -- Every part of every area is copied so: by induction over its type.
-use Rattle.std.proofs.Common.{◌≡◌, ℕ, suc, List, [], ◌∷◌, Some, IsTrue, refl, sym, ◌∙◌, ap, subst}
-use Rattle.type_trees.specs.Trees.{Leaf, Many, Struct, End, Field, part, part_row}
-use Rattle.area_types.specs.Tables.{Table, structs_of, is_table, written_out}
+use Rattle.std.proofs.Common.{◌≡◌, ℕ, suc, [], ◌∷◌, Some, refl, subst}
+use Rattle.type_trees.specs.Trees.{Leaf, Many, Struct, End, Field, part_row}
+use Rattle.area_types.specs.Tables.{Table}
 use Rattle.area_types.specs.Trees.{Written, WrittenRow, area_in}
 use Rattle.c_meaning.proofs.Lawful.{LawfulCalls}
 use Rattle.area_objects.specs.Both.{Map}

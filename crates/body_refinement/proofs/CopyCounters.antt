@@ -1,5 +1,5 @@
 -- The counter of a copy's loop: an object of a temporary from 0 to the last number, its test and its next number.
-use Rattle.std.proofs.Common.{◌≡◌, ℕ, suc, ◌+◌, ◌^◌, ◌<◌, ◌≤◌, ◌≢◌, ℤ, pos, Bool, true, false, IsTrue, Some, Ok, refl, sym, ◌∙◌, ap, subst, arith, lit<}
+use Rattle.std.proofs.Common.{◌≡◌, ℕ, suc, ◌+◌, ◌^◌, ◌<◌, ◌≤◌, pos, Bool, true, false, IsTrue, Some, refl, ◌∙◌, ap, subst, arith, lit<}
 use Rattle.std.specs.Prelude.{not}
 use Rattle.std.specs.Ordering.{int_eq}
 use Rattle.std.proofs.lemmas.Int.{ints}
@@ -7,18 +7,16 @@ use Rattle.std.proofs.lemmas.Bool.Decides.{Decides-int_eq}
 use Rattle.iv_words.specs.declared.IntKind.TheVariants.{U16}
 use Rattle.c_ast.specs.declared.CScalar.{CScalar}
 use Rattle.c_ast.specs.declared.CScalar.TheVariants.{Int}
-use Rattle.c_ast.specs.declared.CKind.{CKind}
 use Rattle.c_ast.specs.declared.CKind.TheVariants.{Scalar, Arith as Computed}
 use Rattle.c_ast.specs.declared.Arith.{Arith}
 use Rattle.c_ast.specs.declared.CUnary.TheVariants.{Not}
 use Rattle.c_ast.specs.declared.CBinary.TheVariants.{Add, Ne}
 use Rattle.c_ast.specs.declared.Suffix.TheVariants.{Plain}
 use Rattle.c_ast.specs.Conversions.{can_hold}
-use Rattle.c_ast.specs.Syntax.{Name, Expr, Number, Read, Unary, Binary, Var}
+use Rattle.c_ast.specs.Syntax.{Name, Number, Read, Unary, Binary, Var}
 use Rattle.c_ast.specs.Targets.{TargetTable, table_of, arith_bits, arith_signed, common_type}
 use Rattle.c_meaning.specs.Operators.{sum, fitted}
 use Rattle.c_meaning.specs.State.{Program, CState}
-use Rattle.c_meaning.specs.Values.{Num, is_true, on_ok}
 use Rattle.c_meaning.proofs.HeldNumbers.{held_converts}
 use Rattle.overflow_checks.proofs.Alike.{left_kept, fitted_held}
 use Rattle.overflow_checks.proofs.Numbers.{natural}

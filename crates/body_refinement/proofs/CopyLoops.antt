@@ -1,5 +1,5 @@
 -- The loop that copies an array: a turn for each element, whose block ends behind the test of the counter or its next number.
-use Rattle.std.proofs.Common.{◌≡◌, ◌≢◌, ℕ, zero, suc, ◌+◌, ◌-◌, ◌*◌, ◌^◌, ◌==◌, ◌<◌, ◌≤◌, ℤ, pos, Bool, true, false, List, [], ◌∷◌, ◌++◌, length, slice_get, Option, Some, None, Result, Ok, IsTrue, refl, sym, ◌∙◌, ap, subst, arith, lit<}
+use Rattle.std.proofs.Common.{◌≡◌, ◌≢◌, ℕ, zero, suc, ◌+◌, ◌-◌, ◌*◌, ◌==◌, ◌<◌, ◌≤◌, ℤ, pos, Bool, true, false, List, [], ◌∷◌, ◌++◌, length, Option, Some, None, refl, sym, ◌∙◌, ap, subst, arith, lit<}
 use Rattle.std.specs.Prelude.{if◌then◌else◌}
 use Rattle.std.proofs.lemmas.Bool.{eqb-true, eqb-false, lt-ltb}
 use Rattle.step_semantics.specs.Control.{Control, Falls, Broke, onward, again, forever}
@@ -12,13 +12,12 @@ use Rattle.step_semantics.proofs.Paying.{takes_give, takes_tick, takes_bind, rea
 use Rattle.type_trees.specs.Trees.{Leaf, Many, Struct, nodes, part}
 use Rattle.type_trees.specs.Values.{Cell, Parts, Values}
 use Rattle.area_types.specs.Trees.{Written}
-use Rattle.core_meaning.specs.Areas.{Held, Area, Areas, put_at}
+use Rattle.core_meaning.specs.Areas.{Areas, put_at}
 use Rattle.c_memory.specs.Abstract.{Same, Left}
 use Rattle.c_ast.specs.declared.CKind.TheVariants.{Scalar}
 use Rattle.c_ast.specs.declared.CBinary.TheVariants.{Add, Ne}
 use Rattle.c_ast.specs.declared.CUnary.TheVariants.{Not}
 use Rattle.c_ast.specs.declared.Suffix.TheVariants.{Plain}
-use Rattle.c_ast.specs.Conversions.{can_hold}
 use Rattle.c_ast.specs.Scalars.{metric_of}
 use Rattle.c_ast.specs.Syntax.{Name, Expr, Number, Read, Unary, Binary, Place, Var, Stmt, Assign, Forever, Break, Nil, Cons}
 use Rattle.c_ast.specs.Targets.{table_of}
@@ -48,7 +47,7 @@ use Rattle.value_refinement.proofs.Keeping.{same_twice}
 use Rattle.value_refinement.proofs.Objects.{ObjectIs, Declared, temporary_is_old, object_made, object_left, takes_object_with, takes_assign}
 use Rattle.value_refinement.proofs.Running.{runs_first, takes_value, takes_one, nothing_left, constant_gives}
 use Rattle.statement_refinement.specs.Apart.{OfNoArea}
-use Rattle.body_refinement.proofs.Aside.{Aside, Fixed, aside_same, aside_twice, aside_kept}
+use Rattle.body_refinement.proofs.Aside.{Aside, Fixed, aside_twice, aside_kept}
 use Rattle.body_refinement.proofs.CopyCounters.{counting, counter_holds, counter_read, counter_is_last, counter_goes_on, counter_next}
 use Rattle.body_refinement.proofs.CopyParts.{PartIn, Copied, CopyOf, At, Here, holds_form, each_many, part_here, first_none, last_all, leads_to, leads_from}
 

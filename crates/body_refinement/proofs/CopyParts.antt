@@ -1,33 +1,27 @@
 -- A copy part by part: the C of each part takes from one step for each of its nodes to four, and leaves the areas with the part put there.
-use Rattle.std.proofs.Common.{◌≡◌, ◌≢◌, ℕ, zero, suc, ◌+◌, ◌-◌, ◌*◌, ◌==◌, ◌<◌, ◌≤◌, ℤ, pos, Bool, true, false, List, [], ◌∷◌, ◌++◌, length, slice_get, Option, Some, None, Result, Ok, IsTrue, refl, sym, ◌∙◌, ap, subst, arith, lit<}
+use Rattle.std.proofs.Common.{◌≡◌, ℕ, zero, suc, ◌+◌, ◌-◌, ◌*◌, ◌==◌, ◌≤◌, ℤ, Bool, true, false, List, [], ◌∷◌, ◌++◌, slice_get, Some, Result, Ok, refl, sym, ◌∙◌, ap, subst, arith}
 use Rattle.std.proofs.lemmas.Bool.{eqb-true, eqb-false}
 use Rattle.std.proofs.lemmas.List.{append_assoc}
-use Rattle.step_semantics.specs.Control.{Control, Falls, Broke, onward, again, forever}
-use Rattle.step_semantics.specs.Steps.{World, Progress, Finished, Exhausted, Part, give, after, bind, tick, left, block}
-use Rattle.step_semantics.specs.Lawful.{Lawful}
-use Rattle.step_semantics.specs.Takes.{Takes, Reaches}
-use Rattle.step_semantics.proofs.ControlLaws.{forever_turn}
-use Rattle.step_semantics.proofs.Paying.{takes_give, takes_tick, takes_bind, reaches_more}
+use Rattle.step_semantics.specs.Steps.{World}
+use Rattle.step_semantics.specs.Takes.{Reaches}
+use Rattle.step_semantics.proofs.Paying.{reaches_more}
 use Rattle.type_trees.specs.Trees.{Leaf, Many, Struct, End, Field, nodes, nodes_row, part, part_row}
-use Rattle.type_trees.specs.Values.{Cell, Parts, Values, Nil, Cons, EachOf, Fits, FitsRow, at, at_row}
+use Rattle.type_trees.specs.Values.{Cell, Parts, Values, Nil, Cons, EachOf, FitsRow}
 use Rattle.type_trees.proofs.Values.{lens}
-use Rattle.area_types.specs.Syntax as types
 use Rattle.area_types.specs.Syntax.{ValueType}
 use Rattle.area_types.specs.Trees.{Written, WrittenRow}
 use Rattle.core_meaning.specs.Areas.{Held, Area, Areas, Live, put_at}
-use Rattle.c_memory.specs.Abstract.{Same}
 use Rattle.c_memory.specs.Access.{Fault}
 use Rattle.c_ast.specs.declared.CKind.TheVariants.{Scalar}
-use Rattle.c_ast.specs.Conversions.{can_hold}
 use Rattle.c_ast.specs.Scalars.{metric_of}
-use Rattle.c_ast.specs.Syntax.{Name, Expr, Read, Place, Member, Stmt, Assign}
+use Rattle.c_ast.specs.Syntax.{Name, Read, Place, Stmt, Assign}
 use Rattle.c_ast.specs.Targets.{table_of}
 use Rattle.c_meaning.specs.Expressions as c
 use Rattle.c_meaning.specs.Initializers.{as_number, number_of}
 use Rattle.c_meaning.specs.Memory.{CObjects, memory_of}
 use Rattle.c_meaning.specs.Places.{Lvalue, member_of, read}
 use Rattle.c_meaning.specs.State.{CState, lives}
-use Rattle.c_meaning.specs.Statements.{exec, stored}
+use Rattle.c_meaning.specs.Statements.{stored}
 use Rattle.c_meaning.specs.Values.{CValue, Trouble, Num, on_ok}
 use Rattle.c_meaning.proofs.HeldNumbers.{held_as_assigned}
 use Rattle.area_objects.specs.Both.{Map, LiveIn, Done}
@@ -40,7 +34,7 @@ use Rattle.area_objects.proofs.Alike.{lawful_in}
 use Rattle.area_objects.proofs.Copies.{copies_begin, copies_go_on, copies_end}
 use Rattle.area_objects.proofs.Kept.{part_fits}
 use Rattle.area_objects.proofs.Lives.{objects_live}
-use Rattle.area_objects.proofs.Located.{fields_located, elements_located, fields_in_order}
+use Rattle.area_objects.proofs.Located.{fields_located}
 use Rattle.area_objects.proofs.Outside.{places_read, places_assigned}
 use Rattle.lower_values.specs.Expressions.{field_name, fields_of}
 use Rattle.lower_values.specs.Frames.{Frame}
@@ -50,6 +44,7 @@ use Rattle.value_refinement.specs.Laws.{running}
 use Rattle.value_refinement.specs.Settings.{Setting, Set}
 use Rattle.value_refinement.proofs.Running.{runs_first, takes_pad}
 use Rattle.statement_refinement.proofs.Stores.{takes_assign}
+use Rattle.statement_refinement.specs.Moves.{StillLive}
 use Rattle.statement_refinement.proofs.Written.{still_live}
 use Rattle.body_refinement.proofs.Aside.{Aside, Fixed, aside_same, aside_twice, fixed_on}
 
@@ -63,20 +58,20 @@ module _ (objects : Map) (areas : Areas) (k o : ℕ) (ty : Written) (path : List
   pub part_lives : LiveIn objects areas k o h.is.area
   part_lives = record { live = h.is.live; object = h.object }
 
-  -- where something was put, what is a part there is a part of the same area
+  -- where something was put, the area is the same but for what it holds
+  pub same_area : (j : ℕ) (p : List ℕ) (x : Held) (l : StillLive (put_at j p x areas) k h.is.area) (now : Area) → slice_get (put_at j p x areas) k ≡ Some (Live now) → now ≡ l.area
+  same_area j p x l now live = let same : Some (Live now) ≡ Some (Live l.area) = sym live ∙ l.live in cc
+
+  -- what is a part there is a part of it
   abbrev pub part_still : (j : ℕ) (p : List ℕ) (x : Held) (longer : List ℕ) (c : Written) (w : Held) → PartIs (put_at j p x areas) k longer c w → PartIn objects (put_at j p x areas) k o ty longer c w
   part_still j p x longer c w now =
       let l = still_live j p x areas k h.is.area h.is.live in
-      let same : Some (Live now.area) ≡ Some (Live l.area) = sym now.live ∙ l.live in
-      let one : now.area ≡ l.area = cc in
-      record { is = now; type = ap (λ (a : Area). a.ty) one ∙ l.type ∙ h.type; object = h.object }
+      record { is = now; type = ap (λ (a : Area). a.ty) (same_area j p x l now.area now.live) ∙ l.type ∙ h.type; object = h.object }
 
   pub mutable_still : (j : ℕ) (p : List ℕ) (x : Held) (longer : List ℕ) (c : Written) (w : Held) → h.is.area.constant ≡ false → (now : PartIs (put_at j p x areas) k longer c w) → now.area.constant ≡ false
   mutable_still j p x longer c w mutable now =
       let l = still_live j p x areas k h.is.area h.is.live in
-      let same : Some (Live now.area) ≡ Some (Live l.area) = sym now.live ∙ l.live in
-      let one : now.area ≡ l.area = cc in
-      ap (λ (a : Area). a.constant) one ∙ l.access ∙ mutable
+      ap (λ (a : Area). a.constant) (same_area j p x l now.area now.live) ∙ l.access ∙ mutable
 
 module _ (g : Setting) (objects : Map) where
   -- the statements of a stretch, from state u, and what comes after them

@@ -1,6 +1,6 @@
 -- What the statements before an expression add to a state: a name of the function stands as before, holds a value, or names an object made since. Such
 -- statements call nothing but the stop of a check.
-use Rattle.std.proofs.Common.{◌≡◌, ◌⊎◌, inl, inr, ⊎_elim, ℕ, zero, suc, ◌+◌, ◌≤◌, ℤ, Bool, true, false, List, [], ◌∷◌, ◌++◌, length, Option, Some, None, Result, Ok, Err, refl, sym, ◌∙◌, ap, subst, arith, length-append}
+use Rattle.std.proofs.Common.{◌≡◌, ◌⊎◌, inl, inr, ⊎_elim, ℕ, zero, suc, ◌≤◌, ℤ, Bool, true, false, List, [], ◌∷◌, ◌++◌, length, Option, Some, None, Result, Ok, Err, refl, sym, ◌∙◌, ap, subst, arith, length-append}
 use Rattle.std.specs.Prelude.{if◌then◌else◌}
 use Rattle.std.specs.List.{find}
 use Rattle.iv_words.specs.Words.{same_word}
@@ -18,7 +18,6 @@ use Rattle.c_ast.specs.declared.CType.{CType}
 use Rattle.c_ast.specs.declared.CType.TheVariants.{Value}
 use Rattle.iv_words.specs.declared.IntKind.TheVariants.{U32}
 use Rattle.c_ast.specs.Names.{named, stop_name}
-use Rattle.c_ast.specs.Scalars.{metric_of}
 use Rattle.c_ast.specs.Structs.{CTree, tree}
 use Rattle.c_ast.specs.Syntax.{Name, Expr, Init, Stmt, Const, ConstCall, Object, Assign, If, IfElse, Forever, Break, Return, Block, Call, Stmts, Nil, Cons, FunctionCall}
 use Rattle.c_ast.specs.View.{stmts_from}

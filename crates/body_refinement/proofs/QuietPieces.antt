@@ -1,5 +1,5 @@
 -- The statements before an expression declare and assign temporaries, choose, and stop at a check; they call nothing else.
-use Rattle.std.proofs.Common.{◌≡◌, ℕ, suc, Bool, true, false, List, [], ◌∷◌, ◌++◌, Option, Some, None, refl}
+use Rattle.std.proofs.Common.{ℕ, Bool, true, false, List, [], ◌∷◌, ◌++◌, Option, Some, None, refl}
 use Rattle.std.specs.Prelude.{if◌then◌else◌, ◌&&◌}
 use Rattle.iv_words.specs.declared.IntKind.{IntKind}
 use Rattle.bit_data.specs.declared.BitLayout.{BitLayout}
@@ -16,8 +16,8 @@ use Rattle.core_meaning.specs.Answers.{operator_of, layout_of}
 use Rattle.c_ast.specs.declared.CType.{CType}
 use Rattle.c_ast.specs.Syntax.{Expr, Place, Stmt, Const, Object, Assign, If, IfElse}
 use Rattle.c_ast.specs.View.{stmts_from}
-use Rattle.lower_values.specs.Choices.{is_logic, is_truth_chain, left_object, into, logic, choice}
-use Rattle.lower_values.specs.Conversions.{range_guard, valued, converted, wrapped, kept, bit_field, set_in, field_set, is_signed_type}
+use Rattle.lower_values.specs.Choices.{is_logic, is_truth_chain, left_object, into, choice}
+use Rattle.lower_values.specs.Conversions.{range_guard, valued, converted, set_in, is_signed_type}
 use Rattle.lower_values.specs.Expressions.{raw, place, index_piece, left_piece, binary_piece, prefixed, field_piece, after_object}
 use Rattle.lower_values.specs.Frames.{Frame, kind_in, type_in}
 use Rattle.lower_values.specs.Operators.{applied, operand}

@@ -1,6 +1,3 @@
-use Rattle.body_refinement.proofs.Atoms.{index_atom}
-use Rattle.body_refinement.proofs.QuietPieces.{place_quiet}
-use Rattle.body_refinement.proofs.Declaring.{declared_fresh}
 use Rattle.body_refinement.proofs.Copies.{copies_follow}
 use Rattle.body_refinement.proofs.laws.copies_follow.Goals as goal
 

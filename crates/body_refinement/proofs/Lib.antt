@@ -2,6 +2,7 @@ pub mod Blocks
 pub mod Choosing
 pub mod Coming
 pub mod Contracts
+pub mod DeclaredKinds
 pub mod Giving
 pub mod Growing
 pub mod Places

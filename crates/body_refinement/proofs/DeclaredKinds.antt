@@ -17,10 +17,10 @@ use Rattle.body_refinement.specs.Kinds.{IsValue, KindsAre, AllKindsAre}
 
 among_both : (m : ℕ) (xs ys : List ℕ) → is_among m (xs ++ ys) ≡ (is_among m xs || is_among m ys)
 among_both m [] ys = refl
-among_both m (x ∷ xs) ys = or_later (nat_eq m x) where
-  or_later : (here : Bool) → (here || is_among m (xs ++ ys)) ≡ ((here || is_among m xs) || is_among m ys)
-  or_later true = refl
-  or_later false = among_both m xs ys
+among_both m (x ∷ xs) ys = or_later (nat_eq m x) (among_both m xs ys) where
+  or_later : (here : Bool) → is_among m (xs ++ ys) ≡ (is_among m xs || is_among m ys) → (here || is_among m (xs ++ ys)) ≡ ((here || is_among m xs) || is_among m ys)
+  or_later true e = refl
+  or_later false e = e
 
 among_first : (m : ℕ) (xs ys : List ℕ) → is_among m ys ≡ false → is_among m (xs ++ ys) ≡ is_among m xs
 among_first m xs ys none = among_both m xs ys ∙ ap (λ b. is_among m xs || b) none ∙ or-false (is_among m xs)
@@ -36,36 +36,36 @@ Elsewhere m first many = first ≤ m → m < first + many → ⊥
 
 module _ (env : Env) where
   alloc_elsewhere : (at : Point) (x : ℕ) (ty : ValueType) → IsNext env at x ty → (m : ℕ) → Elsewhere m at.next 1 → is_among m (x ∷ []) ≡ false
-  alloc_elsewhere at x ty name m no = ap (λ b. b || false) (ne_eqb m x (λ same. no (omega (arith, same, name.number_is)) (omega (arith, same, name.number_is))))
+  alloc_elsewhere at x ty name m out = ap (λ b. b || false) (ne_eqb m x (λ same. out (omega (arith, same, name.number_is)) (omega (arith, same, name.number_is))))
 
   mutual
     stmt_elsewhere : (c : StmtCore) (at : Point) → StmtTyped env at c → (m : ℕ) → Elsewhere m at.next (locals_in c) → is_among m (allocated_stmt c) ≡ false
-    stmt_elsewhere (Let x e) at t m no = refl
-    stmt_elsewhere (LetCall x c) at t m no = refl
-    stmt_elsewhere (Alloc x a i) at t m no = alloc_elsewhere at x _ t.name m no
-    stmt_elsewhere (Store a b) at t m no = refl
-    stmt_elsewhere (Copy a b) at t m no = refl
-    stmt_elsewhere (Call c) at t m no = refl
-    stmt_elsewhere (If e a) at t m no = stmts_elsewhere a at t.1 m no
-    stmt_elsewhere (IfElse e a b) at t m no =
-        among_second m (allocated a) (allocated b) (stmts_elsewhere a at t.1 m (λ from to. no from (omega (arith, to))))
-        ∙ stmts_elsewhere b (skipping (all_locals a) at) t.2 m (λ from to. no (omega (arith, from)) (omega (arith, to)))
-    stmt_elsewhere (Map x n a) at t m no = stmts_elsewhere a (within_loop x at) t.1 m (λ from to. no (omega (arith, from)) (omega (arith, to)))
-    stmt_elsewhere (Upto x n e a) at t m no = stmts_elsewhere a (within_loop x at) t.2 m (λ from to. no (omega (arith, from)) (omega (arith, to)))
-    stmt_elsewhere (Downto x n e a) at t m no = stmts_elsewhere a (within_loop x at) t.2 m (λ from to. no (omega (arith, from)) (omega (arith, to)))
-    stmt_elsewhere (Forever a) at t m no = stmts_elsewhere a (looping at) t m no
-    stmt_elsewhere Break at t m no = refl
-    stmt_elsewhere (Return e) at t m no = refl
-    stmt_elsewhere (Assert e c) at t m no = refl
-    stmt_elsewhere (NoAlloc a) at t m no = stmts_elsewhere a _ t m no
-    stmt_elsewhere (NoBreak a) at t m no = stmts_elsewhere a _ t m no
-    stmt_elsewhere (NoReturn a) at t m no = stmts_elsewhere a _ t m no
+    stmt_elsewhere (Let x e) at t m out = refl
+    stmt_elsewhere (LetCall x c) at t m out = refl
+    stmt_elsewhere (Alloc x a i) at t m out = alloc_elsewhere at x _ t.name m out
+    stmt_elsewhere (Store a b) at t m out = refl
+    stmt_elsewhere (Copy a b) at t m out = refl
+    stmt_elsewhere (Call c) at t m out = refl
+    stmt_elsewhere (If e a) at t m out = stmts_elsewhere a at t.1 m out
+    stmt_elsewhere (IfElse e a b) at t m out =
+        among_second m (allocated a) (allocated b) (stmts_elsewhere a at t.1 m (λ from to. out from (omega (arith, to))))
+        ∙ stmts_elsewhere b (skipping (all_locals a) at) t.2 m (λ from to. out (omega (arith, from)) (omega (arith, to)))
+    stmt_elsewhere (Map x n a) at t m out = stmts_elsewhere a (within_loop x at) t.1 m (λ from to. out (omega (arith, from)) (omega (arith, to)))
+    stmt_elsewhere (Upto x n e a) at t m out = stmts_elsewhere a (within_loop x at) t.2 m (λ from to. out (omega (arith, from)) (omega (arith, to)))
+    stmt_elsewhere (Downto x n e a) at t m out = stmts_elsewhere a (within_loop x at) t.2 m (λ from to. out (omega (arith, from)) (omega (arith, to)))
+    stmt_elsewhere (Forever a) at t m out = stmts_elsewhere a (looping at) t m out
+    stmt_elsewhere Break at t m out = refl
+    stmt_elsewhere (Return e) at t m out = refl
+    stmt_elsewhere (Assert e c) at t m out = refl
+    stmt_elsewhere (NoAlloc a) at t m out = stmts_elsewhere a _ t m out
+    stmt_elsewhere (NoBreak a) at t m out = stmts_elsewhere a _ t m out
+    stmt_elsewhere (NoReturn a) at t m out = stmts_elsewhere a _ t m out
 
     stmts_elsewhere : (ss : StmtsCore) (at : Point) → StmtsTyped env at ss → (m : ℕ) → Elsewhere m at.next (all_locals ss) → is_among m (allocated ss) ≡ false
-    stmts_elsewhere NoStmts at t m no = refl
-    stmts_elsewhere (MoreStmts c ss) at t m no =
-        among_second m (allocated_stmt c) (allocated ss) (stmt_elsewhere c at t.0 m (λ from to. no from (omega (arith, to))))
-        ∙ stmts_elsewhere ss (after c at) t.2 m (λ from to. no (omega (arith, from)) (omega (arith, to)))
+    stmts_elsewhere NoStmts at t m out = refl
+    stmts_elsewhere (MoreStmts c ss) at t m out =
+        among_second m (allocated_stmt c) (allocated ss) (stmt_elsewhere c at t.0 m (λ from to. out from (omega (arith, to))))
+        ∙ stmts_elsewhere ss (after c at) t.2 m (λ from to. out (omega (arith, from)) (omega (arith, to)))
 
 -- ---- lists that have of so many locals the same
 

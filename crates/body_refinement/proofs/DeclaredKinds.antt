@@ -98,7 +98,8 @@ module _ (env : Env) (objects : List ℕ) where
       → (Agree objects (allocated a) (suc at.next) (all_locals a) → AllKindsAre objects a) → Agree objects (allocated a) at.next (1 + all_locals a) → IsValue objects x × AllKindsAre objects a
   loop_kinds x ty a at name t body agree = (
     value_kind at x ty (allocated a) (all_locals a) name (stmts_elsewhere env a (within_loop x at) t x (λ from to. omega (arith, from, name.number_is))) agree,
-    body (λ m from to. agree m (omega (arith, from)) (omega (arith, to))))
+    body (λ m from to. agree m (omega (arith, from)) (omega (arith, to))),
+  )
 
   mutual
     pub stmt_kinds : (c : StmtCore) (at : Point) → StmtTyped env at c → Agree objects (allocated_stmt c) at.next (locals_in c) → KindsAre objects c

@@ -15,6 +15,7 @@ pub mod CopyLoops
 pub mod CopyParts
 pub mod Counters
 pub mod Counting
+pub mod DeclaredKinds
 pub mod Declaring
 pub mod FixedPlaces
 pub mod Giving

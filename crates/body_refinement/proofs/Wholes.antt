@@ -48,8 +48,8 @@ use Rattle.body_refinement.specs.Statements.{CameTo, CameWith, CameBack, StmtsDo
 use Rattle.body_refinement.proofs.Blocks.{before_kept}
 use Rattle.body_refinement.proofs.Coming.{kept_moved, set_in, stage_in, came_with, came_of, came_join, back_join}
 use Rattle.body_refinement.proofs.Contracts.{selected_are, required_typed, required_small, ensures_go_on}
+use Rattle.body_refinement.proofs.DeclaredKinds.{kinds_known}
 use Rattle.body_refinement.proofs.Growing.{tests_grow, stmts_grow}
-use Rattle.body_refinement.specs.Laws.{KindsAreKnown}
 use Rattle.body_refinement.proofs.Statements.{rows, stmts_follow}
 
 within_below : (n m : ℕ) → Contains (below n) m → m < n
@@ -63,7 +63,7 @@ no_result None falls h g = refl
 no_result (Some ty) true h g = let no : ⊥ = cc in absurd no
 no_result (Some ty) false h g = let no : ⊥ = cc in absurd no
 
-module _ (kinds_are_known : KindsAreKnown) (d : Lowered) (others : OthersFollow d) (entry : Entry) (waiting : List Activation) (objects : Map) (s : State) (t : CState) (before : Before d (start d.proc) entry waiting objects s t) where
+module _ (d : Lowered) (others : OthersFollow d) (entry : Entry) (waiting : List Activation) (objects : Map) (s : State) (t : CState) (before : Before d (start d.proc) entry waiting objects s t) where
   abbrev params : List ℕ
   params = below (length d.proc.params)
 
@@ -146,7 +146,7 @@ module _ (kinds_are_known : KindsAreKnown) (d : Lowered) (others : OthersFollow 
         as_is d.skip Post 0 0 n (bind body_part going n w s) (λ j. running (within d params) (body ++ falling) j w u) (λ j. after (running (within d params) body j w u) (onward (running (within d params) falling))) (λ j. rows d params body falling j w u)
         (bound d.skip (λ flow x control y. StmtsDone d entry at.next objects s u flow x control y × CameSource flow x) Post 0 0 0 n (body_part n w s) (λ j. running (within d params) body j w u) going (onward (running (within d params) falling))
         (kept d.skip HasMeaning (StmtsDone d entry at.next objects s u) CameSource 0 0 n (body_part n w s) (λ j. running (within d params) body j w u) (stmts_come d.core d.valid d.number d.proc d.is entry waiting at place s before.scoped d.proc.body typed.body n w)
-        (stmts_follow d others d.proc.body at place typed.body (kinds_are_known d.core d.valid d.number d.proc d.is) (last_checks (flat_map contract_checks d.proc.contracts) (stmts_checks d.proc.body) d.numbered) entry waiting objects s u before_u k low n w))
+        (stmts_follow d others d.proc.body at place typed.body (kinds_known d.core d.valid d.number d.proc d.is) (last_checks (flat_map contract_checks d.proc.contracts) (stmts_checks d.proc.body) d.numbered) entry waiting objects s u before_u k low n w))
         (λ flow x control y both m le z. ended flow x control y both.0 both.1 m z))
 
   pub body_follows : (n : ℕ) (w : World) → Follows d.skip Post 0 0 n (body_of d.core (calls_before d.core d.number) d.proc n w s)
@@ -160,5 +160,5 @@ module _ (kinds_are_known : KindsAreKnown) (d : Lowered) (others : OthersFollow 
       ((stmts_body (frame_in d) (home_in d) d.proc.body k).stmts ++ (falling_off (frame_in d) d.proc (stmts_body (frame_in d) (home_in d) d.proc.body k).next).stmts) 0 0 (length d.proc.locals) (omega arith) t before.related
       (λ u kept_u m z. statements_then k (tests_grow (frame_in d) (requires_of d.proc) (length d.proc.locals)) u kept_u m z) n w)
 
-pub bodies_follow : KindsAreKnown → BodiesFollow
-bodies_follow kinds d others entry waiting objects s t before n w = body_follows kinds d others entry waiting objects s t before n w
+pub bodies_follow : BodiesFollow
+bodies_follow d others entry waiting objects s t before n w = body_follows d others entry waiting objects s t before n w

@@ -1,20 +1,19 @@
 -- Blocks follow where what stands in them does: choices, narrowing blocks and loops without an end of their own.
-use Rattle.std.proofs.Common.{◌≡◌, ℕ, ◌+◌, ◌≤◌, Bool, true, false, List, [], ◌∷◌, ◌++◌, length, Option, refl, sym, ◌∙◌, ap, subst, arith}
+use Rattle.std.proofs.Common.{◌≡◌, ℕ, ◌+◌, ◌≤◌, Bool, true, false, List, [], ◌∷◌, ◌++◌, length, Option, refl, sym, ◌∙◌, subst, arith}
 use Rattle.std.specs.Prelude.{if◌then◌else◌}
 use Rattle.step_semantics.specs.Alike.{Same}
-use Rattle.step_semantics.specs.Control.{Control, Falls, Broke, Returned, forever, onward}
+use Rattle.step_semantics.specs.Control.{Control, Falls, Broke, Returned, forever}
 use Rattle.step_semantics.specs.Follows.{Follows}
-use Rattle.step_semantics.specs.Lawful.{Lawful}
 use Rattle.step_semantics.specs.Safe.{HasMeaning}
-use Rattle.step_semantics.specs.Steps.{World, Progress, Part, block, give, tick, after}
+use Rattle.step_semantics.specs.Steps.{World, Part, block, give, tick}
 use Rattle.step_semantics.proofs.ControlFollows.{block_follows, forever_follows, same_moves}
 use Rattle.step_semantics.proofs.Following.{weaker, kept, as_is, rests, both_tick, eased}
 use Rattle.step_semantics.proofs.Laws.{block_lawful}
 use Rattle.alloc_effects.specs.declared.allowed.Allowed.{Allowed}
 use Rattle.core_tree.specs.Checks.{expr_checks, stmts_checks}
-use Rattle.core_tree.specs.Environments.{Point, named_by, all_locals, skipping, narrowing, looping}
-use Rattle.core_tree.specs.Syntax.{ExprCore, StmtCore, If, IfElse, Forever, Break, NoAlloc, NoBreak, NoReturn, StmtsCore}
-use Rattle.core_tree.specs.TypedStatements.{StmtTyped, StmtsTyped}
+use Rattle.core_tree.specs.Environments.{Point, named_by, all_locals, skipping, looping}
+use Rattle.core_tree.specs.Syntax.{ExprCore, StmtCore, If, IfElse, Forever, Break, StmtsCore}
+use Rattle.core_tree.specs.TypedStatements.{StmtsTyped}
 use Rattle.core_meaning.specs.Conditions.{ensured}
 use Rattle.core_meaning.specs.State as source
 use Rattle.core_meaning.specs.State.{State}
@@ -35,7 +34,7 @@ use Rattle.region_soundness.specs.Scoped.{Activation, Scoped}
 use Rattle.region_soundness.proofs.Scopes.{blocks_keep_scopes}
 use Rattle.lower_values.specs.Expressions.{raw}
 use Rattle.lower_values.specs.Frames.{allocated}
-use Rattle.lower_statements.specs.Statements.{stmt_body, stmts_body}
+use Rattle.lower_statements.specs.Statements.{stmts_body}
 use Rattle.value_refinement.specs.Kept.{Kept}
 use Rattle.value_refinement.specs.Laws.{Numbered, running}
 use Rattle.value_refinement.proofs.Given.{first_checks, last_checks}

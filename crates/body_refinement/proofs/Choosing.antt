@@ -1,5 +1,5 @@
 -- A choice of statements follows the source's: the test takes the step of the choice, and then both go the same way.
-use Rattle.std.proofs.Common.{◌≡◌, ℕ, zero, suc, ◌+◌, ◌<◌, ◌≤◌, ℤ, pos, Bool, true, false, List, [], ◌∷◌, ◌++◌, Option, None, refl, sym, ◌∙◌, ap, subst, arith, append_assoc}
+use Rattle.std.proofs.Common.{◌≡◌, ℕ, ◌+◌, ◌≤◌, pos, Bool, [], ◌∷◌, ◌++◌, Option, refl, sym, ◌∙◌, ap, subst, arith, append_assoc}
 use Rattle.std.specs.Prelude.{not, IsTrue}
 use Rattle.std.specs.Ordering.{int_eq}
 use Rattle.step_semantics.specs.Control.{Control, Falls, Broke, Returned, onward}
@@ -23,7 +23,7 @@ use Rattle.c_ast.specs.declared.CKind.TheVariants.{Scalar}
 use Rattle.c_ast.specs.declared.CScalar.{CScalar}
 use Rattle.c_ast.specs.declared.CScalar.TheVariants as scalar
 use Rattle.c_ast.specs.Conversions.{can_hold}
-use Rattle.c_ast.specs.Syntax.{Expr, Stmt}
+use Rattle.c_ast.specs.Syntax.{Stmt}
 use Rattle.c_ast.specs.Targets.{table_of}
 use Rattle.c_meaning.specs.State.{CState}
 use Rattle.c_meaning.specs.Statements.{exec, with_truth}

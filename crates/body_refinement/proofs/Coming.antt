@@ -1,8 +1,8 @@
 -- How both sides come on in a body: from related states to later ones, one stretch after another, and out of a block.
-use Rattle.std.proofs.Common.{◌≡◌, ℕ, zero, suc, ◌<◌, ◌≤◌, List, [], ◌∷◌, length, Some, None, refl, sym, ◌∙◌, ap, subst, arith}
+use Rattle.std.proofs.Common.{◌≡◌, ℕ, zero, suc, ◌<◌, ◌≤◌, List, [], ◌∷◌, length, Some, None, refl, sym, ◌∙◌, subst, arith}
 use Rattle.std.specs.Prelude.{slice_get, Option}
 use Rattle.area_types.specs.Syntax.{ValueType}
-use Rattle.c_memory.specs.Abstract.{Left, Same}
+use Rattle.c_memory.specs.Abstract.{Left}
 use Rattle.c_ast.specs.Scalars.{metric_of}
 use Rattle.c_ast.specs.Targets.{table_of}
 use Rattle.c_meaning.specs.Memory.{memory_of}
@@ -10,12 +10,11 @@ use Rattle.c_meaning.specs.State as target
 use Rattle.c_meaning.specs.State.{Program, CState}
 use Rattle.c_meaning.specs.Values.{CValue}
 use Rattle.core_tree.specs.Environments.{Point}
-use Rattle.core_meaning.specs.Areas.{Area, Areas, Live, marked, mark_from, from_place}
+use Rattle.core_meaning.specs.Areas.{Area, Live, marked, from_place}
 use Rattle.core_meaning.specs.State as source
 use Rattle.core_meaning.specs.State.{State}
 use Rattle.core_meaning.specs.Values.{Value, Num, Ref}
-use Rattle.area_objects.specs.Both.{Map, LiveIn}
-use Rattle.area_objects.specs.Holds.{CanHold}
+use Rattle.area_objects.specs.Both.{Map}
 use Rattle.area_objects.specs.PlaceLaws.{BothIn}
 use Rattle.area_objects.proofs.Alike.{lawful_in, objects_hold_areas}
 use Rattle.region_soundness.specs.Fitting.{Entry}
@@ -31,12 +30,12 @@ use Rattle.lowered_surroundings.specs.Surroundings.{naming_for}
 use Rattle.lowered_surroundings.proofs.NamesApart.{named_old}
 use Rattle.lowered_surroundings.proofs.Procedures.{procedures_are_set}
 use Rattle.lowered_surroundings.proofs.Staged.{scoped_states_are_staged}
-use Rattle.statement_refinement.specs.Apart.{OfNoArea, CountersApart}
+use Rattle.statement_refinement.specs.Apart.{CountersApart}
 use Rattle.statement_refinement.specs.Moves.{StillLive, Moved, ScopeBefore}
 use Rattle.statement_refinement.proofs.Moves.{states_move_on}
 use Rattle.statement_refinement.proofs.Movements.{moves_join}
 use Rattle.body_refinement.specs.Bodies.{Lowered, frame_in, program_in, within}
-use Rattle.body_refinement.specs.Results.{GivesPointer, ResultGiven, ValueGiven}
+use Rattle.body_refinement.specs.Results.{ResultGiven, ValueGiven}
 use Rattle.body_refinement.specs.Statements.{CameTo, CameWith, CameBack}
 
 -- ---- one stretch

@@ -1,15 +1,15 @@
 -- What a procedure ensures is tested alike on both sides, where it returns and where it falls off its end.
-use Rattle.std.proofs.Common.{Contains, ◌≡◌, ℕ, suc, ◌^◌, ◌<◌, ◌≤◌, Bool, true, false, List, [], ◌∷◌, ◌++◌, length, Option, Some, None, refl, sym, ◌∙◌, ap, subst, arith}
-use Rattle.std.specs.Prelude.{not, if◌then◌else◌, slice_get, take, All, cond}
+use Rattle.std.proofs.Common.{Contains, ◌≡◌, ℕ, ◌≤◌, Bool, true, false, List, [], ◌∷◌, ◌++◌, length, Option, Some, refl, ap}
+use Rattle.std.specs.Prelude.{not, if◌then◌else◌, All, cond}
 use Rattle.std.specs.List.{filter, flat_map}
-use Rattle.std.proofs.lemmas.List.Elements.{All-nil, All-cons, All-head, All-tail}
+use Rattle.std.proofs.lemmas.List.Elements.{All-nil, All-cons}
 use Rattle.step_semantics.specs.Control.{Control}
 use Rattle.step_semantics.specs.Follows.{Follows}
 use Rattle.step_semantics.specs.Steps.{World, Part, bind}
 use Rattle.area_types.specs.Syntax.{ValueType, Truth}
 use Rattle.core_tree.specs.Checks.{expr_checks, contract_checks, stmts_checks}
-use Rattle.core_tree.specs.Environments.{Env, Point}
-use Rattle.core_tree.specs.Syntax.{ContractCore, ProcCore}
+use Rattle.core_tree.specs.Environments.{Env}
+use Rattle.core_tree.specs.Syntax.{ContractCore}
 use Rattle.core_tree.specs.TypedExpressions.{HasType}
 use Rattle.core_tree.specs.TypedItems.{below, contract_env, ContractTyped}
 use Rattle.core_meaning.specs.Conditions.{tested_all, ensures_of, requires_of}
@@ -21,13 +21,13 @@ use Rattle.c_meaning.specs.State.{CState}
 use Rattle.c_meaning.specs.Values.{CValue}
 use Rattle.area_objects.specs.Both.{Map}
 use Rattle.region_soundness.specs.Fitting.{Entry}
-use Rattle.region_soundness.specs.Laws.{PlaceIn, inside}
+use Rattle.region_soundness.specs.Laws.{inside}
 use Rattle.region_soundness.specs.Scoped.{Activation, Scoped}
 use Rattle.region_soundness.proofs.Conditions.{kept_typed, requires_typed, ensures_typed}
 use Rattle.value_fitting.specs.Known.{Knows, ResultFits}
 use Rattle.value_fitting.proofs.States.{scoped_is_known, fewer_are_known, contracts_know, results_are_known}
 use Rattle.value_fitting.proofs.Expressions.{given_values_fit}
-use Rattle.lower_statements.specs.Conditions.{contract_tests, selected, required, ensured}
+use Rattle.lower_statements.specs.Conditions.{contract_tests, selected}
 use Rattle.lower_values.specs.Expressions as lowered
 use Rattle.value_refinement.specs.Kept.{Kept}
 use Rattle.value_refinement.specs.Laws.{Numbered, Stage, running}

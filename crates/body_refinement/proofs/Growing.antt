@@ -8,7 +8,7 @@ use Rattle.core_meaning.specs.Initializers.{part_types}
 use Rattle.area_types.specs.Tables.{written_out}
 use Rattle.c_ast.specs.declared.CType.{CType}
 use Rattle.c_ast.specs.Syntax.{Place, Inits}
-use Rattle.lower_values.specs.Expressions.{raw, place, value_of}
+use Rattle.lower_values.specs.Expressions.{raw, place}
 use Rattle.lower_values.specs.Frames.{Frame, type_in}
 use Rattle.lower_values.specs.Pieces.{Piece, named, inline, atom}
 use Rattle.lower_statements.specs.Conditions.{contract_tests, ensured_tests, return_value, return_nothing}

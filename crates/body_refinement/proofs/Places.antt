@@ -1,16 +1,16 @@
 -- Places of a body: where a statement's parts and the statements behind it stand.
-use Rattle.std.proofs.Common.{Contains, ◌≡◌, ℕ, zero, suc, ◌+◌, ◌<◌, ◌≤◌, List, [], ◌∷◌, length, Some, None, refl, sym, ◌∙◌, ap, subst, arith}
-use Rattle.std.specs.Prelude.{slice_get, map, IsTrue}
+use Rattle.std.proofs.Common.{Contains, ◌≡◌, ℕ, zero, suc, ◌+◌, ◌<◌, ◌≤◌, List, [], ◌∷◌, length, None, refl, sym, ap, subst, arith}
+use Rattle.std.specs.Prelude.{slice_get, map}
 use Rattle.std.proofs.lemmas.Option.{slice_get_within}
 use Rattle.area_types.specs.Syntax.{ValueType}
-use Rattle.core_tree.specs.Environments.{Env, Point, locals_in, all_locals, after, skipping, narrowing, looping, within_loop}
+use Rattle.core_tree.specs.Environments.{Env, Point, locals_in, all_locals, after, skipping, looping, within_loop}
 use Rattle.core_tree.specs.Syntax.{ProcCore, ParamCore, StmtCore, Let, LetCall, Alloc, Store, Copy, Call, If, IfElse, Map, Upto, Downto, Forever, Break, Return, Assert, NoAlloc, NoBreak, NoReturn, StmtsCore, NoStmts, MoreStmts}
 use Rattle.core_tree.specs.TypedItems.{below}
 use Rattle.core_tree.specs.TypedStatements.{StmtTyped, StmtsTyped, IsNext}
 use Rattle.region_soundness.specs.Laws.{PlaceIn}
 use Rattle.lower_types.specs.Names.{local_name}
 use Rattle.lower_values.specs.Frames.{name_of, named_or}
-use Rattle.body_refinement.specs.Bodies.{Lowered, env_in, frame_in}
+use Rattle.body_refinement.specs.Bodies.{Lowered, frame_in}
 
 -- ---- parts
 

@@ -1,9 +1,9 @@
 -- A return follows: its value is kept by a name while what is ensured is tested, if anything is.
-use Rattle.std.proofs.Common.{Contains, ◌≡◌, ℕ, suc, ◌+◌, ◌<◌, ◌≤◌, Bool, true, false, List, [], ◌∷◌, ◌++◌, length, Option, Some, None, Ok, refl, sym, ◌∙◌, ap, subst, arith, inl, inr, append_assoc}
+use Rattle.std.proofs.Common.{◌≡◌, ℕ, suc, ◌+◌, ◌<◌, ◌≤◌, List, [], ◌∷◌, ◌++◌, length, Option, Some, None, Ok, refl, sym, ◌∙◌, ap, subst, arith, inl, inr, append_assoc}
 use Rattle.std.specs.Prelude.{◌⊎◌, not, IsTrue}
-use Rattle.step_semantics.specs.Control.{Control, Falls, Broke, Returned, onward}
+use Rattle.step_semantics.specs.Control.{Control, Returned}
 use Rattle.step_semantics.specs.Follows.{Follows}
-use Rattle.step_semantics.specs.Steps.{World, Part, bind, give, tick, ticks, after}
+use Rattle.step_semantics.specs.Steps.{World, Part, bind, give, tick, ticks}
 use Rattle.step_semantics.proofs.Following.{as_is, rests, both_tick, eased, second_ticks}
 use Rattle.step_semantics.proofs.Paying.{pays_to}
 use Rattle.area_types.specs.Syntax as types
@@ -60,11 +60,10 @@ use Rattle.lower_statements.specs.Conditions.{contract_tests, return_value, retu
 use Rattle.value_refinement.specs.Kept.{Kept}
 use Rattle.value_refinement.specs.Laws.{Numbered, Stage, owing, spare, running}
 use Rattle.value_refinement.specs.Related.{is_constant, NameStands, Related}
-use Rattle.value_refinement.specs.Settings.{Setting, Set}
+use Rattle.value_refinement.specs.Settings.{Setting}
 use Rattle.value_refinement.specs.Values.{Comes}
 use Rattle.value_refinement.proofs.Expressions.{raw_all}
-use Rattle.value_refinement.proofs.Keeping.{kept_same, kept_twice, kept_less, kept_declared}
-use Rattle.value_refinement.proofs.Given.{first_checks}
+use Rattle.value_refinement.proofs.Keeping.{kept_same, kept_twice, kept_declared}
 use Rattle.value_refinement.proofs.Growing.{raw_grows}
 use Rattle.value_refinement.proofs.Lets.{named_here, pointer_reads}
 use Rattle.value_refinement.proofs.Objects.{temporary_is_old}
@@ -72,7 +71,7 @@ use Rattle.value_refinement.proofs.Operands.{padded}
 use Rattle.value_refinement.proofs.Running.{runs_first, takes_const, takes_pad}
 use Rattle.value_refinement.proofs.Standings.{related_on}
 use Rattle.lowered_surroundings.proofs.Procedures.{ensures_are_set, plain_ensures_are_set}
-use Rattle.body_refinement.specs.Bodies.{Lowered, env_in, frame_in, home_in, program_in, within}
+use Rattle.body_refinement.specs.Bodies.{Lowered, env_in, frame_in, program_in, within}
 use Rattle.body_refinement.specs.Laws.{ReturnsFollow}
 use Rattle.body_refinement.specs.Results.{ValueGiven, ResultGiven}
 use Rattle.body_refinement.specs.Statements.{CameBack, StmtDone, Before}

@@ -1,5 +1,5 @@
 -- The statements without blocks whose own laws stand: a `let`, a store, an `assert`.
-use Rattle.std.proofs.Common.{Contains, ◌≡◌, ℕ, zero, suc, ◌<◌, ◌≤◌, ℤ, List, [], ◌∷◌, ◌++◌, length, Option, Some, None, refl, sym, ◌∙◌, ap, subst, arith}
+use Rattle.std.proofs.Common.{Contains, ◌≡◌, ℕ, zero, suc, ◌<◌, ◌≤◌, ℤ, List, [], ◌∷◌, ◌++◌, length, Option, Some, refl, sym, ◌∙◌, ap, subst, arith}
 use Rattle.std.specs.Prelude.{slice_get}
 use Rattle.std.proofs.lemmas.Option.{slice_get_within}
 use Rattle.step_semantics.specs.Control.{Control, Falls, Broke, Returned}
@@ -7,7 +7,7 @@ use Rattle.step_semantics.specs.Follows.{Follows}
 use Rattle.step_semantics.proofs.Following.{weaker}
 use Rattle.area_types.specs.Syntax.{ValueType}
 use Rattle.core_tree.specs.Checks.{expr_checks}
-use Rattle.core_tree.specs.Environments.{Point, named_by}
+use Rattle.core_tree.specs.Environments.{Point}
 use Rattle.core_tree.specs.declared.Check.{Check}
 use Rattle.core_tree.specs.Syntax.{ExprCore, Let, Store, Assert, type_of}
 use Rattle.core_meaning.specs.Conditions.{ensured}
@@ -17,7 +17,7 @@ use Rattle.core_meaning.specs.Statements.{Flow, exec}
 use Rattle.core_meaning.specs.Values as source
 use Rattle.c_ast.specs.Names.{named}
 use Rattle.c_ast.specs.Syntax.{Const}
-use Rattle.c_meaning.specs.State.{CState, Slot, Holding}
+use Rattle.c_meaning.specs.State.{CState}
 use Rattle.c_meaning.specs.Values.{CValue}
 use Rattle.area_objects.specs.Both.{Map}
 use Rattle.region_soundness.specs.Fitting.{Entry}
@@ -43,7 +43,7 @@ use Rattle.statement_refinement.proofs.Moves.{states_move_on}
 use Rattle.statement_refinement.proofs.Stores.{store_follows}
 use Rattle.statement_refinement.proofs.Tests.{assert_follows}
 use Rattle.body_refinement.specs.Bodies.{Lowered, frame_in, home_in, program_in, within}
-use Rattle.body_refinement.specs.Statements.{CameTo, CameWith, StmtDone, Before, StmtFollows}
+use Rattle.body_refinement.specs.Statements.{CameWith, StmtDone, Before, StmtFollows}
 use Rattle.body_refinement.proofs.Blocks.{done_of, before_kept, since_kept}
 use Rattle.body_refinement.proofs.Coming.{set_in, stage_in, name_before, scope_before, moved_less, stayed}
 use Rattle.body_refinement.proofs.Places.{local_named, params_before}

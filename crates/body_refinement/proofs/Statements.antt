@@ -1,11 +1,9 @@
 -- All statements of a body follow, one behind the other, where those do whose laws are given.
-use Rattle.std.proofs.Common.{◌≡◌, ℕ, ◌≤◌, List, [], ◌∷◌, ◌++◌, length, Option, refl, sym, ◌∙◌, ap, subst, arith}
-use Rattle.step_semantics.specs.Alike.{Same}
+use Rattle.std.proofs.Common.{◌≡◌, ℕ, ◌≤◌, List, [], ◌∷◌, ◌++◌, Option, refl, arith}
 use Rattle.step_semantics.specs.Control.{Control, Falls, Broke, Returned, also, onward}
 use Rattle.step_semantics.specs.Follows.{Follows}
 use Rattle.step_semantics.specs.Safe.{HasMeaning}
 use Rattle.step_semantics.specs.Steps.{World, Progress, Finished, Halted, Exhausted, Part, after}
-use Rattle.step_semantics.proofs.Equations.{after_after}
 use Rattle.step_semantics.proofs.Following.{bound, kept, as_is, rests, weaker}
 use Rattle.step_semantics.proofs.ControlFollows.{same_moves}
 use Rattle.core_tree.specs.Checks.{stmt_checks, stmts_checks}
@@ -15,27 +13,24 @@ use Rattle.core_tree.specs.Syntax.{StmtCore, StmtsCore, Let, LetCall, Alloc, Sto
 use Rattle.core_meaning.specs.Conditions.{ensured}
 use Rattle.core_meaning.specs.State.{State}
 use Rattle.core_meaning.specs.Statements.{Flow, exec, exec_all}
-use Rattle.core_meaning.specs.Values.{Value}
 use Rattle.c_ast.specs.Syntax.{Stmt}
 use Rattle.c_meaning.specs.State.{CState}
 use Rattle.c_meaning.specs.Statements as target
 use Rattle.c_meaning.specs.Values.{CValue}
 use Rattle.region_soundness.specs.Laws.{calls_before, KeepsScope}
 use Rattle.region_soundness.proofs.Scopes.{statements_keep_scopes}
-use Rattle.lower_values.specs.Frames.{allocated}
 use Rattle.lower_statements.specs.Statements.{stmt_body, stmts_body}
 use Rattle.value_refinement.specs.Laws.{running}
 use Rattle.value_refinement.proofs.Given.{first_checks, last_checks}
 use Rattle.body_refinement.specs.Bodies.{Lowered, env_in, frame_in, home_in, program_in, within}
-use Rattle.body_refinement.specs.Kinds.{KindsAre, AllKindsAre}
 use Rattle.body_refinement.specs.Laws.{OthersFollow, StatementsFollow}
-use Rattle.body_refinement.specs.Statements.{CameTo, CameWith, CameBack, StmtDone, StmtsDone, Before, StmtFollows, StmtsFollow}
+use Rattle.body_refinement.specs.Statements.{CameTo, CameWith, CameBack, StmtDone, StmtsDone, StmtFollows, StmtsFollow}
 use Rattle.body_refinement.proofs.Blocks.{ifs_follow, if_elses_follow, breaks_follow, narrowed_follows, forever_follows_in}
 use Rattle.body_refinement.proofs.Allocs.{allocs_follow_all}
 use Rattle.body_refinement.proofs.Copies.{copies_follow}
 use Rattle.body_refinement.proofs.Counting.{map_follows, downto_follows}
 use Rattle.body_refinement.proofs.Returns.{returns_follow}
-use Rattle.body_refinement.proofs.Coming.{came_of, came_join, back_join, stayed}
+use Rattle.body_refinement.proofs.Coming.{came_join, back_join, stayed}
 use Rattle.body_refinement.proofs.Growing.{stmt_grows}
 use Rattle.body_refinement.proofs.Places.{place_after, stmt_room}
 use Rattle.body_refinement.proofs.Simple.{lets_follow_in, stores_follow_in, asserts_follow_in}

@@ -1,5 +1,5 @@
 -- A whole body follows: what is required is tested before it, and what is ensured where it falls off its end.
-use Rattle.std.proofs.Common.{Contains, ◌≡◌, ℕ, zero, suc, ◌<◌, ◌≤◌, Bool, true, false, List, [], ◌∷◌, ◌++◌, length, Option, Some, None, refl, sym, ◌∙◌, ap, subst, arith, append-nil}
+use Rattle.std.proofs.Common.{Contains, ◌≡◌, ℕ, zero, suc, ◌<◌, ◌≤◌, Bool, true, false, List, [], ◌++◌, length, Option, Some, None, refl, sym, subst, arith, append-nil}
 use Rattle.std.specs.Prelude.{◌||◌, not, if◌then◌else◌, is_none, take, IsTrue}
 use Rattle.std.specs.List.{flat_map}
 use Rattle.step_semantics.specs.Control.{Control, Falls, Broke, Returned, onward}
@@ -44,9 +44,9 @@ use Rattle.lowered_surroundings.proofs.Procedures.{plain_ensures_are_set}
 use Rattle.statement_refinement.proofs.Tests.{contracts_go_on}
 use Rattle.body_refinement.specs.Bodies.{Lowered, env_in, frame_in, home_in, program_in, within}
 use Rattle.body_refinement.specs.Laws.{OthersFollow, BodiesFollow}
-use Rattle.body_refinement.specs.Statements.{CameTo, CameWith, CameBack, StmtsDone, Before, BodyDone}
+use Rattle.body_refinement.specs.Statements.{CameTo, CameWith, StmtsDone, Before, BodyDone}
 use Rattle.body_refinement.proofs.Blocks.{before_kept}
-use Rattle.body_refinement.proofs.Coming.{kept_moved, set_in, stage_in, came_with, came_of, came_join, back_join}
+use Rattle.body_refinement.proofs.Coming.{kept_moved, set_in, stage_in, came_with, came_join, back_join}
 use Rattle.body_refinement.proofs.Contracts.{selected_are, required_typed, required_small, ensures_go_on}
 use Rattle.body_refinement.proofs.DeclaredKinds.{kinds_known}
 use Rattle.body_refinement.proofs.Growing.{tests_grow, stmts_grow}

@@ -2,7 +2,7 @@
 use Rattle.std.specs.Prelude.{◌≡◌, ℕ, Bool, true, false, slice_get, Option, Some, IsTrue}
 use Rattle.area_types.specs.Syntax.{Area}
 use Rattle.core_tree.specs.Environments.{Point, within_loop}
-use Rattle.core_tree.specs.Syntax.{ModuleCore, ProcCore, ExprCore, InitCore, CallCore, StmtCore, Number, Local, LetCall, Alloc, Copy, Call, Map, Upto, Downto, Return, StmtsCore}
+use Rattle.core_tree.specs.Syntax.{ModuleCore, ProcCore, ExprCore, InitCore, CallCore, Number, Local, LetCall, Alloc, Copy, Call, Map, Upto, Downto, Return, StmtsCore}
 use Rattle.core_tree.specs.Valid.{ValidCore}
 use Rattle.lower_values.specs.Frames.{allocated}
 use Rattle.body_refinement.specs.Bodies.{Lowered}

@@ -1,5 +1,10 @@
 ghost use Rattle.body_refinement.specs.Laws.{AllocsFollow, BodiesFollow, CopiesFollow, DowntosFollow, KindsAreKnown, MapsFollow, ReturnsFollow, StatementsFollow};
 
+/// Of the locals that a procedure's body declares, the objects are those of its `alloc`s, and no other.
+pub fn kinds_are_known()
+    ensures { KindsAreKnown }
+{}
+
 /// The C of an `alloc` follows it, whatever its initializer: its expressions come first, and then the object that holds the first value.
 pub fn allocs_follow()
     ensures { AllocsFollow }
@@ -30,11 +35,6 @@ pub fn downtos_follow()
 /// the same check, and what they leave is related again.
 pub fn statements_follow()
     ensures { StatementsFollow }
-{}
-
-/// Of the locals that a procedure's body declares, the objects are those of its `alloc`s, and no other.
-pub fn kinds_are_known()
-    ensures { KindsAreKnown }
 {}
 
 /// So does the C of a whole body, with the tests of what its procedure requires and ensures.

@@ -1,8 +1,8 @@
 -- The laws of the statements of a body, form by form, and of all of them.
-use Rattle.std.specs.Prelude.{◌≡◌, ℕ, Bool, true, false, slice_get, Option, Some, IsTrue}
+use Rattle.std.specs.Prelude.{◌≡◌, ℕ, slice_get, Option, Some}
 use Rattle.area_types.specs.Syntax.{Area}
 use Rattle.core_tree.specs.Environments.{Point, within_loop}
-use Rattle.core_tree.specs.Syntax.{ModuleCore, ProcCore, ExprCore, InitCore, CallCore, Number, Local, LetCall, Alloc, Copy, Call, Map, Upto, Downto, Return, StmtsCore}
+use Rattle.core_tree.specs.Syntax.{ModuleCore, ProcCore, ExprCore, InitCore, CallCore, LetCall, Alloc, Copy, Call, Map, Upto, Downto, Return, StmtsCore}
 use Rattle.core_tree.specs.Valid.{ValidCore}
 use Rattle.lower_values.specs.Frames.{allocated}
 use Rattle.body_refinement.specs.Bodies.{Lowered}
@@ -25,16 +25,6 @@ MapsFollow = (d : Lowered) (at : Point) (number length : ℕ) (body : StmtsCore)
 
 abbrev pub DowntosFollow : Type 0
 DowntosFollow = (d : Lowered) (at : Point) (number length : ℕ) (bound : ExprCore) (body : StmtsCore) → StmtsFollow d (within_loop number at) body → StmtFollows d at (Downto number length bound body)
-
--- a bound that is a number or the name of a local: no temporary stands for it
-abbrev pub is_named_bound : ExprCore → Bool
-is_named_bound (Number l value) = true
-is_named_bound (Local l x) = true
-is_named_bound e = false
-
-abbrev pub NamedUptosFollow : Type 0
-NamedUptosFollow =
-    (d : Lowered) (at : Point) (number length : ℕ) (bound : ExprCore) (body : StmtsCore) → IsTrue (is_named_bound bound) → StmtsFollow d (within_loop number at) body → StmtFollows d at (Upto number length bound body)
 
 -- ---- what is so of each body of a valid core
 
